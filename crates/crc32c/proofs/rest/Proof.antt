@@ -1,0 +1,107 @@
+-- What the fold leaves. The invariant: the first j bytes are so, and y holds bytes.
+use borrow.Author.Needs.{needs}
+use native.Mathlib.Omega.{arith}
+use mathlib.Core.Path.{_≡_, _∙_, refl}
+use Prim.Native.Nat.{ℕ, _≤_, _<_, _+_, _-_}
+use lib.Bits.{bitXor}
+use lib.ListN.{length, getD, length-set}
+use Rattle.crc32c_format.specs.Method.Fold.{taps}
+use Rattle.crc32c_format.specs.Method.Lists.{set-more}
+use Rattle.crc32c.proofs.rest.Statement.{statement}
+use Rattle.crc32c.proofs.rest.Tie as tie
+
+abbrev Inv-loop : tie.InvT-loop
+Inv-loop r₀ y m n j₀ r j =
+    (j ≤ 266) × (length r ≡ 266) × ((k : ℕ) → k < j → getD r k 0 ≡ bitXor (getD m (n + k) 0) (taps y (n + k))) × ((k : ℕ) → 0 < j → getD y k 0 < 256)
+
+abbrev μ-loop : tie.MeasureT-loop
+μ-loop r₀ y m n j₀ r j = 266 - j
+
+loop-holds : tie.Need-loop-holds Inv-loop μ-loop
+loop-holds c = (search needs, search needs, λ k h. absurd (omega arith), λ k h. absurd (omega arith))
+
+add-i : tie.Need-add-i Inv-loop μ-loop
+add-i c = search needs
+
+shared-slice-read-r : tie.Need-shared-slice-read-r Inv-loop μ-loop
+shared-slice-read-r c = search needs
+
+add-r : tie.Need-add-r Inv-loop μ-loop
+add-r c = search needs
+
+shared-slice-read-r-2 : tie.Need-shared-slice-read-r-2 Inv-loop μ-loop
+shared-slice-read-r-2 c = search needs
+
+add-r-2 : tie.Need-add-r-2 Inv-loop μ-loop
+add-r-2 c = search needs
+
+shared-slice-read-r-3 : tie.Need-shared-slice-read-r-3 Inv-loop μ-loop
+shared-slice-read-r-3 c = search needs
+
+add-r-3 : tie.Need-add-r-3 Inv-loop μ-loop
+add-r-3 c = search needs
+
+shared-slice-read-r-4 : tie.Need-shared-slice-read-r-4 Inv-loop μ-loop
+shared-slice-read-r-4 c = search needs
+
+add-r-4 : tie.Need-add-r-4 Inv-loop μ-loop
+add-r-4 c = search needs
+
+shared-slice-read-r-5 : tie.Need-shared-slice-read-r-5 Inv-loop μ-loop
+shared-slice-read-r-5 c = search needs
+
+shared-slice-read-r-6 : tie.Need-shared-slice-read-r-6 Inv-loop μ-loop
+shared-slice-read-r-6 c = search needs
+
+slice-write-r : tie.Need-slice-write-r Inv-loop μ-loop
+slice-write-r c = search needs
+
+add-j : tie.Need-add-j Inv-loop μ-loop
+add-j c = search needs
+
+loop-less : tie.Need-loop-less Inv-loop μ-loop
+loop-less c = search needs
+
+loop-again : tie.Need-loop-again Inv-loop μ-loop
+unfolding taps
+loop-again c =
+    let b = c .before .before .before .before .before .before .before in
+    let a = b .before .args in (
+      search needs,
+      length-set (b .loop .r) (b .loop .j) _ ∙ b .loop .inv .1,
+      set-more (λ (k : ℕ). bitXor (getD (a .m .now) (a .n + k) 0) (taps (a .y .now) (a .n + k))) (b .loop .r) (b .loop .j) (omega arith) refl (b .loop .inv .2),
+      λ k h. omega (arith, c .shared-slice-known6 .given k),
+    )
+
+same-length : tie.Need-same-length Inv-loop μ-loop
+same-length c = search needs
+
+returns : tie.Need-returns Inv-loop μ-loop
+returns c =
+    let b = c .before in
+    record { len = b .loop .inv .1; bytes = λ k. b .loop .inv .3 k (omega arith); byte = λ j h. b .loop .inv .2 j (omega arith) }
+
+pub rest-spec : {M : Type 1} → statement M
+rest-spec =
+    tie.close
+    (tie.spec
+    Inv-loop
+    μ-loop
+    loop-holds
+    add-i
+    shared-slice-read-r
+    add-r
+    shared-slice-read-r-2
+    add-r-2
+    shared-slice-read-r-3
+    add-r-3
+    shared-slice-read-r-4
+    add-r-4
+    shared-slice-read-r-5
+    shared-slice-read-r-6
+    slice-write-r
+    add-j
+    loop-less
+    loop-again
+    same-length
+    returns)

@@ -1,0 +1,416 @@
+// CRC-32C (Castagnoli). Short data goes eight bytes at a time by a table: the small one of this crate, or a larger one that the caller
+// fills once and lends. Long data is folded by a sparse multiple of the polynomial, which needs no table.
+mod nibbles;
+
+ghost use mathlib.Core.Path.{_≡_};
+ghost use Prim.Native.Nat.{ℕ, _+_, _-_, _*_, _/_, _%_, _<_, _≤_};
+ghost use lib.ListN.{length, take, drop};
+ghost use lib.Bits.{bitXor};
+ghost use Rattle.crc32c_format.specs.Crc.{bitStep, bitSteps, register, crc32c};
+ghost use Rattle.crc32c_format.specs.Bytes.{littleEndian};
+ghost use Rattle.crc32c_format.specs.Table.{sliceTable, nibbleTable};
+ghost use Rattle.crc32c_format.specs.Lent.{lookUp2, lookUp4, tableStep1, tableStep4, tableStep8, steps, eightsEnd, foursEnd, tableRegister, sumBy};
+ghost use Rattle.crc32c_format.specs.Method.Tables.{Filled};
+ghost use Rattle.crc32c_format.specs.Method.Fold.{Folded, Rest};
+
+// ---- bytes as a number, the first lowest
+
+fn load2(s: &[u8], at: usize) -> u16
+    requires { ⌜ at + 2 ≤ length (now s) ⌝ }
+    ensures { λ r. ⌜ r ≡ littleEndian (take 2 (drop at (now (s .entry)))) ⌝ }
+{
+    (s[at] as u16) + (s[at + 1] as u16) * 0x100
+}
+
+fn load4(s: &[u8], at: usize) -> u32
+    requires { ⌜ at + 4 ≤ length (now s) ⌝ }
+    ensures { λ r. ⌜ r ≡ littleEndian (take 4 (drop at (now (s .entry)))) ⌝ }
+{
+    (load2(s, at) as u32) + (load2(s, at + 2) as u32) * 0x1_0000
+}
+
+// ---- by the small table
+
+// What is left of four bits, and of one, two and four bytes, after 4 * k bits more than theirs.
+fn left_half(t: &[u32; 256], k: usize, x: usize) -> u32
+    requires { ⌜ (now t ≡ nibbleTable) × (k < 16) × (x < 16) ⌝ }
+    ensures { λ r. ⌜ r ≡ bitSteps (4 + 4 * k) x ⌝ }
+{
+    t[k * 16 + x]
+}
+
+fn left1(t: &[u32; 256], k: usize, x: u32) -> u32
+    requires { ⌜ (now t ≡ nibbleTable) × (k < 15) × (x < 256) ⌝ }
+    ensures { λ r. ⌜ r ≡ bitSteps (8 + 4 * k) x ⌝ }
+{
+    left_half(t, k + 1, (x % 16) as usize) ^ left_half(t, k, (x / 16) as usize)
+}
+
+fn left2(t: &[u32; 256], k: usize, x: u32) -> u32
+    requires { ⌜ (now t ≡ nibbleTable) × (k < 13) × (x < 65536) ⌝ }
+    ensures { λ r. ⌜ r ≡ bitSteps (16 + 4 * k) x ⌝ }
+{
+    left1(t, k + 2, x % 0x100) ^ left1(t, k, x / 0x100)
+}
+
+fn left4(t: &[u32; 256], k: usize, x: u32) -> u32
+    requires { ⌜ (now t ≡ nibbleTable) × (k < 9) ⌝ }
+    ensures { λ r. ⌜ r ≡ bitSteps (32 + 4 * k) x ⌝ }
+{
+    left2(t, k + 4, x % 0x1_0000) ^ left2(t, k, x / 0x1_0000)
+}
+
+// The register after one byte, after four, and after eight.
+fn step1(t: &[u32; 256], state: u32, b: u8) -> u32
+    requires { ⌜ now t ≡ nibbleTable ⌝ }
+    ensures { λ r. ⌜ r ≡ bitSteps 8 (bitXor state b) ⌝ }
+{
+    let x = state ^ (b as u32);
+    left1(t, 0, x % 0x100) ^ (x / 0x100)
+}
+
+fn step4(t: &[u32; 256], state: u32, s: &[u8], at: usize) -> u32
+    requires { ⌜ (now t ≡ nibbleTable) × (at + 4 ≤ length (now s)) ⌝ }
+    ensures { λ r. ⌜ r ≡ register state (take 4 (drop at (now (s .entry)))) ⌝ }
+{
+    left4(t, 0, state ^ load4(s, at))
+}
+
+// The later four bytes first: they do not wait for the register.
+fn step8(t: &[u32; 256], state: u32, s: &[u8], at: usize) -> u32
+    requires { ⌜ (now t ≡ nibbleTable) × (at + 8 ≤ length (now s)) ⌝ }
+    ensures { λ r. ⌜ r ≡ register state (take 8 (drop at (now (s .entry)))) ⌝ }
+{
+    let next = at + 4;
+    left4(t, 0, load4(s, next)) ^ left4(t, 8, state ^ load4(s, at))
+}
+
+// The register after as many eights as there are, after four more where there are four, and after the rest.
+fn eights(t: &[u32; 256], state: u32, s: &[u8]) -> u32
+    requires { ⌜ now t ≡ nibbleTable ⌝ }
+    ensures { λ r. ⌜ register r (drop (eightsEnd (now (s .entry))) (now (s .entry))) ≡ register state (now (s .entry)) ⌝ }
+{
+    let n = s.len();
+    let mut c = state;
+    let mut i = 0;
+    while 8 <= n - i {
+        c = step8(t, c, s, i);
+        i += 8;
+    }
+    c
+}
+
+fn four(t: &[u32; 256], state: u32, s: &[u8]) -> u32
+    requires { ⌜ now t ≡ nibbleTable ⌝ }
+    ensures { λ r. ⌜ register r (drop (foursEnd (now (s .entry))) (now (s .entry))) ≡ register state (drop (eightsEnd (now (s .entry))) (now (s .entry))) ⌝ }
+{
+    let n = s.len();
+    if 4 <= n % 8 {
+        let at = n - n % 8;
+        step4(t, state, s, at)
+    } else {
+        state
+    }
+}
+
+fn singles(t: &[u32; 256], state: u32, s: &[u8]) -> u32
+    requires { ⌜ now t ≡ nibbleTable ⌝ }
+    ensures { λ r. ⌜ r ≡ register state (drop (foursEnd (now (s .entry))) (now (s .entry))) ⌝ }
+{
+    let n = s.len();
+    let mut c = state;
+    let mut i = n - n % 4;
+    while i < n {
+        c = step1(t, c, s[i]);
+        i += 1;
+    }
+    c
+}
+
+// The register after the bytes of a slice.
+fn register_by_nibbles(t: &[u32; 256], state: u32, s: &[u8]) -> u32
+    requires { ⌜ now t ≡ nibbleTable ⌝ }
+    ensures { λ r. ⌜ r ≡ register state (now (s .entry)) ⌝ }
+{
+    let a = eights(t, state, s);
+    let b = four(t, a, s);
+    singles(t, b, s)
+}
+
+// ---- by folding
+
+// Folds the first n bytes of m into y.
+fn fold(y: &mut [u8], m: &[u8], n: usize)
+    requires { ⌜ (n ≤ length (now m)) × (n + 266 ≤ length (now y)) ⌝ }
+    ensures { λ r. ⌜ Folded (now (m .entry)) (now (y .entry)) (now (y .exit)) n ⌝ }
+{
+    let mut i = 0;
+    while i < n {
+        y[i + 266] = m[i] ^ (y[i + 143] ^ y[i + 121] ^ y[i + 88] ^ y[i + 71] ^ y[i]);
+        i += 1;
+    }
+}
+
+// The last 266 bytes of m, with what y puts onto them.
+fn rest(r: &mut [u8], y: &[u8], m: &[u8], n: usize)
+    requires { ⌜ (length (now r) ≡ 266) × (length (now m) ≡ n + 266) × (n + 532 ≤ length (now y)) ⌝ }
+    ensures { λ q. ⌜ Rest (now (m .entry)) (now (y .entry)) (now (r .exit)) n ⌝ }
+{
+    let mut j = 0;
+    while j < 266 {
+        let i = n + j;
+        r[j] = m[i] ^ (y[i + 143] ^ y[i + 121] ^ y[i + 88] ^ y[i + 71] ^ y[i]);
+        j += 1;
+    }
+}
+
+// The register after a block: the bytes of a slice that is long enough to fold, and not too long for the buffer.
+fn block(t: &[u32; 256], state: u32, m: &[u8]) -> u32
+    requires { ⌜ (now t ≡ nibbleTable) × (266 ≤ length (now m)) × (length (now m) ≤ 8192) ⌝ }
+    ensures { λ r. ⌜ r ≡ register state (now (m .entry)) ⌝ }
+{
+    let n = m.len() - 266;
+    let mut y = [0u8; 8458];
+    y[0] = (state % 256) as u8;
+    y[1] = (state / 256 % 256) as u8;
+    y[2] = (state / 256 / 256 % 256) as u8;
+    y[3] = (state / 256 / 256 / 256) as u8;
+    fold(&mut y, m, n);
+    let mut r = [0u8; 266];
+    rest(&mut r, &y, m, n);
+    register_by_nibbles(t, 0, &r)
+}
+
+// The register after the bytes of a slice of at most a block: by a fold, where that is quicker.
+fn within_block(t: &[u32; 256], state: u32, s: &[u8]) -> u32
+    requires { ⌜ (now t ≡ nibbleTable) × (length (now s) ≤ 8192) ⌝ }
+    ensures { λ r. ⌜ r ≡ register state (now (s .entry)) ⌝ }
+{
+    if 512 <= s.len() {
+        block(t, state, s)
+    } else {
+        register_by_nibbles(t, state, s)
+    }
+}
+
+// The register after the bytes of a slice, block by block.
+fn blocks(t: &[u32; 256], state: u32, s: &[u8]) -> u32
+    requires { ⌜ now t ≡ nibbleTable ⌝ }
+    ensures { λ r. ⌜ r ≡ register state (now (s .entry)) ⌝ }
+{
+    let n = s.len();
+    let mut c = state;
+    let mut i = 0;
+    while 8192 <= n - i {
+        let e = i + 8192;
+        c = block(t, c, &s[i..e]);
+        i = e;
+    }
+    within_block(t, c, &s[i..])
+}
+
+// A use of a constant array stores it whole on the stack, so the small table is named once for short data and once for long, and lent.
+fn short(state: u32, s: &[u8]) -> u32
+    ensures { λ r. ⌜ r ≡ register state (now (s .entry)) ⌝ }
+{
+    let table = nibbles::NIBBLES;
+    register_by_nibbles(&table, state, s)
+}
+
+fn long(state: u32, s: &[u8]) -> u32
+    ensures { λ r. ⌜ r ≡ register state (now (s .entry)) ⌝ }
+{
+    let table = nibbles::NIBBLES;
+    blocks(&table, state, s)
+}
+
+// The register after the bytes of a slice, from any register: data may come in parts.
+pub fn update(state: u32, bytes: &[u8]) -> u32
+    ensures { λ r. ⌜ r ≡ register state (now (bytes .entry)) ⌝ }
+{
+    if bytes.len() < 512 {
+        short(state, bytes)
+    } else {
+        long(state, bytes)
+    }
+}
+
+// The checksum of a slice.
+pub fn checksum(bytes: &[u8]) -> u32
+    ensures { λ r. ⌜ r ≡ crc32c (now (bytes .entry)) ⌝ }
+{
+    update(0xFFFF_FFFF, bytes) ^ 0xFFFF_FFFF
+}
+
+// ---- the table to lend
+
+fn bit_step(c: u32) -> u32
+    ensures { λ r. ⌜ r ≡ bitStep c ⌝ }
+{
+    (c % 2 * 0x82F6_3B78) ^ (c / 2)
+}
+
+fn byte_steps(x: u32) -> u32
+    ensures { λ r. ⌜ r ≡ bitSteps 8 x ⌝ }
+{
+    let mut c = x;
+    let mut i: usize = 0;
+    while i < 8 {
+        c = bit_step(c);
+        i += 1;
+    }
+    c
+}
+
+// Row 0: what is left of each byte after its own eight bits.
+fn fill_first_row(table: &mut [u32])
+    requires { ⌜ length (now table) ≡ 2048 ⌝ }
+    ensures { λ r. ⌜ Filled (now (table .exit)) 256 ⌝ }
+{
+    let mut i = 0;
+    while i < 256 {
+        table[i] = byte_steps(i as u32);
+        i += 1;
+    }
+}
+
+// Each later entry is eight bits on from the one before it in its column.
+fn fill_other_rows(table: &mut [u32])
+    requires { ⌜ Filled (now table) 256 ⌝ }
+    ensures { λ r. ⌜ Filled (now (table .exit)) 2048 ⌝ }
+{
+    let mut i = 256;
+    while i < 2048 {
+        let above = table[i - 256];
+        let low = (above % 256) as usize;
+        table[i] = table[low] ^ (above / 256);
+        i += 1;
+    }
+}
+
+// Fills the table that a caller lends.
+pub fn fill_table(table: &mut [u32; 2048])
+    ensures { λ r. ⌜ now (table .exit) ≡ sliceTable ⌝ }
+{
+    fill_first_row(table);
+    fill_other_rows(table);
+}
+
+// ---- by a lent table
+
+// What two bytes and four leave by the rows from k on.
+fn look_up2(t: &[u32], k: usize, x: u16) -> u32
+    requires { ⌜ (2048 ≤ length (now t)) × (k < 7) ⌝ }
+    ensures { λ r. ⌜ r ≡ lookUp2 (now (t .entry)) k x ⌝ }
+{
+    let i = (k + 1) * 256 + ((x % 256) as usize);
+    let j = k * 256 + ((x / 256) as usize);
+    t[i] ^ t[j]
+}
+
+fn look_up4(t: &[u32], k: usize, x: u32) -> u32
+    requires { ⌜ (2048 ≤ length (now t)) × (k < 5) ⌝ }
+    ensures { λ r. ⌜ r ≡ lookUp4 (now (t .entry)) k x ⌝ }
+{
+    let n = k + 2;
+    look_up2(t, n, (x % 0x1_0000) as u16) ^ look_up2(t, k, (x / 0x1_0000) as u16)
+}
+
+// The register after one byte, after four, and after eight.
+fn table_step1(t: &[u32], state: u32, s: &[u8], at: usize) -> u32
+    requires { ⌜ (2048 ≤ length (now t)) × (at < length (now s)) ⌝ }
+    ensures { λ r. ⌜ r ≡ tableStep1 (now (t .entry)) state (drop at (now (s .entry))) ⌝ }
+{
+    let x = state ^ (s[at] as u32);
+    let i = (x % 256) as usize;
+    t[i] ^ (x / 256)
+}
+
+fn table_step4(t: &[u32], state: u32, s: &[u8], at: usize) -> u32
+    requires { ⌜ (2048 ≤ length (now t)) × (at + 4 ≤ length (now s)) ⌝ }
+    ensures { λ r. ⌜ r ≡ tableStep4 (now (t .entry)) state (drop at (now (s .entry))) ⌝ }
+{
+    look_up4(t, 0, state ^ load4(s, at))
+}
+
+fn table_step8(t: &[u32], state: u32, s: &[u8], at: usize) -> u32
+    requires { ⌜ (2048 ≤ length (now t)) × (at + 8 ≤ length (now s)) ⌝ }
+    ensures { λ r. ⌜ r ≡ tableStep8 (now (t .entry)) state (drop at (now (s .entry))) ⌝ }
+{
+    let next = at + 4;
+    look_up4(t, 0, load4(s, next)) ^ look_up4(t, 4, state ^ load4(s, at))
+}
+
+// The register after as many eights as there are, after four more where there are four, and after the rest.
+fn table_eights(t: &[u32], state: u32, s: &[u8]) -> u32
+    requires { ⌜ 2048 ≤ length (now t) ⌝ }
+    ensures { λ r. ⌜ r ≡ steps 8 (tableStep8 (now (t .entry))) (length (now (s .entry)) / 8) state (now (s .entry)) ⌝ }
+{
+    let n = s.len();
+    let mut c = state;
+    let mut i = 0;
+    while 8 <= n - i {
+        c = table_step8(t, c, s, i);
+        i += 8;
+    }
+    c
+}
+
+fn table_four(t: &[u32], state: u32, s: &[u8], at: usize) -> u32
+    requires { ⌜ (2048 ≤ length (now t)) × (at ≤ length (now s)) × (length (now s) - at < 8) ⌝ }
+    ensures { λ r. ⌜ r ≡ steps 4 (tableStep4 (now (t .entry))) ((length (now (s .entry)) - at) / 4) state (drop at (now (s .entry))) ⌝ }
+{
+    if 4 <= s.len() - at {
+        table_step4(t, state, s, at)
+    } else {
+        state
+    }
+}
+
+fn table_singles(t: &[u32], state: u32, s: &[u8], at: usize) -> u32
+    requires { ⌜ (2048 ≤ length (now t)) × (at ≤ length (now s)) ⌝ }
+    ensures { λ r. ⌜ r ≡ steps 1 (tableStep1 (now (t .entry))) (length (now (s .entry)) - at) state (drop at (now (s .entry))) ⌝ }
+{
+    let n = s.len();
+    let mut c = state;
+    let mut i = at;
+    while i < n {
+        c = table_step1(t, c, s, i);
+        i += 1;
+    }
+    c
+}
+
+// The checksum of short data by a table. Each function that it calls has this one caller and is inlined: to hand a slice on to a call
+// would take longer than the sum.
+fn sum_by_table(t: &[u32], s: &[u8]) -> u32
+    requires { ⌜ 2048 ≤ length (now t) ⌝ }
+    ensures { λ r. ⌜ r ≡ bitXor (tableRegister (now (t .entry)) 0xFFFFFFFF (now (s .entry))) 0xFFFFFFFF ⌝ }
+{
+    let n = s.len();
+    let past_eights = n - n % 8;
+    let past_fours = n - n % 4;
+    let a = table_eights(t, 0xFFFF_FFFF, s);
+    let b = table_four(t, a, s, past_eights);
+    table_singles(t, b, s, past_fours) ^ 0xFFFF_FFFF
+}
+
+// The checksum by a table that the caller lends; one of fewer than 2,048 entries counts as none.
+pub fn sum(table: &[u32], bytes: &[u8]) -> u32
+    ensures { λ r. ⌜ r ≡ sumBy (now (table .entry)) (now (bytes .entry)) ⌝ }
+{
+    if table.len() < 2048 {
+        checksum(bytes)
+    } else if 512 <= bytes.len() {
+        checksum(bytes)
+    } else {
+        sum_by_table(table, bytes)
+    }
+}
+
+// The same for a table whose length is known.
+pub fn checksum_with_table(table: &[u32; 2048], bytes: &[u8]) -> u32
+    ensures { λ r. ⌜ r ≡ sumBy (now (table .entry)) (now (bytes .entry)) ⌝ }
+{
+    sum(table, bytes)
+}

@@ -1,0 +1,22 @@
+-- Definition: CRC-32C (Castagnoli), bit by bit, as RFC 3720 gives it. The register and the polynomial are reflected: bit 0 leaves first.
+use mathlib.Core.List.{List, [], _∷_}
+use Prim.Native.Nat.{ℕ, zero, suc, _*_, _/_, _%_}
+use lib.Bits.{bitXor}
+
+-- one bit: shift right; where the bit that leaves is 1, xor with the reflected polynomial
+unfoldable pub bitStep : ℕ → ℕ
+bitStep c = bitXor (c % 2 * 0x82F63B78) (c / 2)
+
+-- n bits
+unfoldable pub bitSteps : ℕ → ℕ → ℕ
+bitSteps zero c = c
+bitSteps (suc n) c = bitSteps n (bitStep c)
+
+-- the register after the bytes of a list: each is xored into the low bits, and eight bits leave
+unfoldable pub register : ℕ → List ℕ → ℕ
+register c [] = c
+register c (b ∷ bs) = register (bitSteps 8 (bitXor c b)) bs
+
+-- the checksum: the register starts with all ones, and is inverted at the end
+unfoldable pub crc32c : List ℕ → ℕ
+crc32c bs = bitXor (register 0xFFFFFFFF bs) 0xFFFFFFFF

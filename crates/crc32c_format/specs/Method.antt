@@ -1,0 +1,11 @@
+-- How the code computes the checksum: definitions and laws that only the proofs of the crate `crc32c` cite.
+pub mod Xor
+pub mod Steps
+pub mod Parts
+pub mod Lists
+pub mod Tables
+pub mod Slicing
+pub mod Fold
+pub mod Sparse
+pub mod Folding
+pub mod Window

@@ -1,0 +1,22 @@
+-- Defines fixed fields of eight bytes, big-endian: the bytes of a number, and the number that bytes say.
+use Prim.Native.Nat.{ℕ, _+_, _*_, _/_, _%_, _^_}
+use mathlib.Core.Bool.{true, false}
+use mathlib.Core.List.{List, [], _∷_, _++_}
+use lib.Dec.{leb}
+use lib.ListN.{length, drop, getD}
+
+-- the four lowest bytes of x, the highest first
+unfoldable pub be4 : ℕ → List ℕ
+be4 x = x / 2 ^ 24 % 256 ∷ x / 2 ^ 16 % 256 ∷ x / 2 ^ 8 % 256 ∷ x % 256 ∷ []
+
+-- the eight lowest bytes of x, the highest first
+unfoldable pub be8 : ℕ → List ℕ
+be8 x = be4 (x / 2 ^ 32) ++ be4 x
+
+-- what the first four bytes say
+unfoldable pub readBe4 : List ℕ → ℕ
+readBe4 s = getD s 0 0 * 2 ^ 24 + getD s 1 0 * 2 ^ 16 + getD s 2 0 * 2 ^ 8 + getD s 3 0
+
+-- what the first eight bytes say; 0 where there are fewer
+unfoldable pub readBe8 : List ℕ → ℕ
+readBe8 s = elim (leb 8 (length s)) [ true ↦ readBe4 s * 2 ^ 32 + readBe4 (drop 4 s) | false ↦ 0 ]

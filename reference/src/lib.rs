@@ -1,0 +1,14 @@
+//! The second program: document 01 written down plainly, from the papers alone, so that the
+//! product can be compared with it. Clear before fast; the checksum alone is also made fast, since
+//! the product's speed is measured against it.
+
+#![forbid(unsafe_code)]
+
+pub mod body;
+pub mod crc32c;
+pub mod listing;
+pub mod refusal;
+pub mod segment;
+pub mod selftest;
+pub mod varint;
+pub mod vectors;

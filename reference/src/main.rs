@@ -1,0 +1,42 @@
+//! `reference selftest`: the papers' literals against this program; nonzero on any difference.
+//! `reference vectors`: the lines that the product's program of vectors has to print.
+//! `reference list`: document 01's listing of a segment on standard input.
+
+#![forbid(unsafe_code)]
+
+use reference::{listing, selftest, vectors};
+use std::io::{self, Read, Write};
+use std::process::ExitCode;
+
+fn main() -> ExitCode {
+    let words: Vec<String> = std::env::args().skip(1).collect();
+    let words: Vec<&str> = words.iter().map(String::as_str).collect();
+    let done = match words[..] {
+        ["selftest"] => selftest::run().map(|()| "selftest: all equal\n".to_string()),
+        ["vectors"] => Ok(vectors::text()),
+        ["list"] => Ok(listing::text(&input())),
+        _ => Err("usage: reference selftest | vectors | list".to_string()),
+    };
+    match done {
+        Ok(text) => print(&text),
+        Err(message) => {
+            eprintln!("reference: {message}");
+            ExitCode::FAILURE
+        }
+    }
+}
+
+/// Standard input as far as the listing looks; on a read error, what was read.
+fn input() -> Vec<u8> {
+    let mut bytes = Vec::new();
+    let enough = listing::INPUT_MAX as u64 + 1;
+    let _ = io::stdin().take(enough).read_to_end(&mut bytes);
+    bytes
+}
+
+fn print(text: &str) -> ExitCode {
+    match io::stdout().write_all(text.as_bytes()) {
+        Ok(()) => ExitCode::SUCCESS,
+        Err(_) => ExitCode::FAILURE,
+    }
+}

@@ -1,0 +1,33 @@
+//! "Numbers the box may answer".
+
+/// A refusal: its number and the place reported.
+#[derive(Clone, Copy, Debug, PartialEq, Eq)]
+pub struct Refusal {
+    pub number: u32,
+    pub place: usize,
+}
+
+pub const BAD_BUFFER: u32 = 1;
+pub const BAD_PLACE: u32 = 2;
+pub const RESERVED: u32 = 3;
+pub const COMPRESSED: u32 = 4;
+pub const BAD_TYPE: u32 = 5;
+pub const NOT_ZERO: u32 = 6;
+pub const OUT_OF_ORDER: u32 = 7;
+pub const PAST_PAGE: u32 = 8;
+pub const TOO_LONG: u32 = 9;
+pub const BAD_SUM: u32 = 10;
+pub const NO_ROOM: u32 = 11;
+pub const TORN: u32 = 12;
+pub const UNKNOWN_TYPE: u32 = 20;
+pub const EMPTY_BODY: u32 = 21;
+pub const SHORT: u32 = 22;
+pub const BAD_VARINT: u32 = 23;
+pub const LIST_FULL: u32 = 24;
+pub const BAD_LIST: u32 = 25;
+pub const WRONG_KIND: u32 = 26;
+
+/// `Err` with the number and the place.
+pub fn refuse<T>(number: u32, place: usize) -> Result<T, Refusal> {
+    Err(Refusal { number, place })
+}

@@ -1,0 +1,109 @@
+//! Document 01's uvarint and varint, 64 bits wide. A uvarint has seven bits a byte, lowest group
+//! first; longer than needed is accepted in reading, never written. A varint is the uvarint of 2x
+//! for x >= 0 and of -2x - 1 for x < 0.
+
+/// The longest encoding in bytes.
+pub const LONGEST: usize = 10;
+
+/// Why no number was read.
+#[derive(Clone, Copy, Debug, PartialEq, Eq)]
+pub enum Fault {
+    /// The bytes end inside the number.
+    Short,
+    /// The tenth byte is above 1.
+    BadVarint,
+}
+
+/// Appends the uvarint of `number`.
+pub fn write_uvarint(mut number: u64, bytes: &mut Vec<u8>) {
+    while number > 0x7F {
+        bytes.push(number as u8 | 0x80);
+        number >>= 7;
+    }
+    bytes.push(number as u8);
+}
+
+/// The number of bytes that `write_uvarint` appends.
+pub fn uvarint_length(number: u64) -> usize {
+    let mut length = 1;
+    while length < LONGEST && number >> (7 * length) != 0 {
+        length += 1;
+    }
+    length
+}
+
+/// The number that `bytes` begin with, and how many bytes it takes.
+pub fn read_uvarint(bytes: &[u8]) -> Result<(u64, usize), Fault> {
+    let mut number = 0;
+    for (index, &byte) in bytes.iter().take(LONGEST).enumerate() {
+        if index == LONGEST - 1 && byte > 1 {
+            return Err(Fault::BadVarint);
+        }
+        number |= u64::from(byte & 0x7F) << (7 * index);
+        if byte < 0x80 {
+            return Ok((number, index + 1));
+        }
+    }
+    Err(Fault::Short)
+}
+
+/// Appends the varint of `number`.
+pub fn write_varint(number: i64, bytes: &mut Vec<u8>) {
+    write_uvarint(zigzag(number), bytes);
+}
+
+/// The number of bytes that `write_varint` appends.
+pub fn varint_length(number: i64) -> usize {
+    uvarint_length(zigzag(number))
+}
+
+/// The signed number that `bytes` begin with, and how many bytes it takes.
+pub fn read_varint(bytes: &[u8]) -> Result<(i64, usize), Fault> {
+    read_uvarint(bytes).map(|(number, length)| (unzigzag(number), length))
+}
+
+/// 2x for x >= 0, -2x - 1 for x < 0; worked out in 128 bits, where nothing overflows.
+pub fn zigzag(number: i64) -> u64 {
+    let wide = i128::from(number);
+    let coded = if wide >= 0 { 2 * wide } else { -2 * wide - 1 };
+    coded as u64
+}
+
+/// The number whose zigzag form is `coded`.
+pub fn unzigzag(coded: u64) -> i64 {
+    let half = (coded / 2) as i64;
+    if coded.is_multiple_of(2) {
+        half
+    } else {
+        -half - 1
+    }
+}
+
+#[cfg(test)]
+mod tests {
+    use super::*;
+
+    #[test]
+    fn both_ends_come_back() {
+        for number in [0, 1, -1, 63, -64, 64, i64::MAX, i64::MIN] {
+            let mut bytes = Vec::new();
+            write_varint(number, &mut bytes);
+            assert_eq!(bytes.len(), varint_length(number));
+            assert_eq!(read_varint(&bytes), Ok((number, bytes.len())));
+        }
+    }
+
+    #[test]
+    fn tenth_byte() {
+        let mut bytes = vec![0x80; 9];
+        assert_eq!(read_uvarint(&bytes), Err(Fault::Short));
+        bytes.push(2);
+        assert_eq!(read_uvarint(&bytes), Err(Fault::BadVarint));
+        bytes[9] = 0x80;
+        assert_eq!(read_uvarint(&bytes), Err(Fault::BadVarint));
+        bytes[9] = 1;
+        assert_eq!(read_uvarint(&bytes), Ok((1 << 63, 10)));
+        bytes[9] = 0;
+        assert_eq!(read_uvarint(&bytes), Ok((0, 10)));
+    }
+}

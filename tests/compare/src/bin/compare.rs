@@ -1,0 +1,90 @@
+//! `compare [SEED [FIXTURES]]`: compares the archive with the second program, group by group, and
+//! on the real segments of a folder; nonzero on the first difference, with the seed and the case.
+
+use compare::rng::Rng;
+use compare::{checksums, fixtures, Outcome};
+use std::io::Write;
+use std::path::Path;
+use std::process::ExitCode;
+
+type Group = (&'static str, fn(&mut Rng) -> Outcome);
+
+fn main() -> ExitCode {
+    let words: Vec<String> = std::env::args().skip(1).collect();
+    let Ok(seed) = words.first().map_or(Ok(1), |word| word.parse()) else {
+        eprintln!("usage: compare [SEED [FIXTURES]]");
+        return ExitCode::FAILURE;
+    };
+    println!("seed {seed}");
+    match compare_all(seed, words.get(1)) {
+        Ok(cases) => {
+            println!("compare: {cases} cases, all equal");
+            ExitCode::SUCCESS
+        }
+        Err(case) => {
+            println!("differs");
+            eprintln!("compare: seed {seed}, {case}");
+            ExitCode::FAILURE
+        }
+    }
+}
+
+fn compare_all(seed: u64, folder: Option<&String>) -> Outcome {
+    let mut total = 0;
+    for (name, group) in groups() {
+        total += run(name, || group(&mut Rng::new(seed)))?;
+    }
+    if let Some(folder) = folder {
+        let folder = Path::new(folder);
+        total += run("fixtures", || compare_fixtures(&mut Rng::new(seed), folder))?;
+    }
+    Ok(total)
+}
+
+/// Runs a group and prints its line; the name first, so that a crash shows it.
+fn run(name: &str, group: impl FnOnce() -> Outcome) -> Outcome {
+    print!("{name}: ");
+    let _ = std::io::stdout().flush();
+    let cases = group().map_err(|case| format!("{name}: {case}"))?;
+    println!("{cases}");
+    Ok(cases)
+}
+
+fn groups() -> Vec<Group> {
+    let groups: Vec<Group> = vec![
+        ("checksum, published data", |_| {
+            checksums::compare_published()
+        }),
+        ("checksum, the table", |_| checksums::compare_table()),
+        ("checksum, short data", checksums::compare_short),
+        ("checksum, long data", checksums::compare_long),
+        (
+            "checksum, strange tables",
+            checksums::compare_strange_tables,
+        ),
+    ];
+    #[cfg(feature = "segments")]
+    let groups = [groups, compare::segments::groups()].concat();
+    #[cfg(feature = "bodies")]
+    let groups = [groups, compare::bodies::groups()].concat();
+    groups
+}
+
+/// Each real segment through the calls that the archive has.
+fn compare_fixtures(rng: &mut Rng, folder: &Path) -> Outcome {
+    let mut cases = 0;
+    for fixture in fixtures::read_folder(folder)? {
+        cases += compare_file(rng, &fixture.bytes)
+            .map_err(|case| format!("{}: {case}", fixture.path.display()))?;
+    }
+    Ok(cases)
+}
+
+fn compare_file(rng: &mut Rng, bytes: &[u8]) -> Outcome {
+    let cases = checksums::compare_data(rng, bytes)?;
+    #[cfg(feature = "segments")]
+    let cases = cases + compare::segments::compare_file(rng, bytes)?;
+    #[cfg(feature = "bodies")]
+    let cases = cases + compare::bodies::compare_file(rng, bytes)?;
+    Ok(cases)
+}

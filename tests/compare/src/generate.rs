@@ -1,0 +1,209 @@
+//! Segments to try: such as the writer makes them, and such as it never would.
+
+use crate::rng::Rng;
+use reference::crc32c;
+use reference::segment::{self, FIRST, FULL, HEADER, LAST, MIDDLE, PAGE, RECORD_MAX};
+
+/// Pages of the longest sample.
+pub const PAGES_MAX: usize = 5;
+
+/// A segment and where the things in it are.
+pub struct Sample {
+    pub bytes: Vec<u8>,
+    /// The place of the first record.
+    pub start: usize,
+    pub fragments: Vec<Fragment>,
+}
+
+#[derive(Clone, Copy)]
+pub struct Fragment {
+    /// The type byte.
+    pub start: usize,
+    /// The place after the data.
+    pub end: usize,
+    /// The first type byte of its record.
+    pub record: usize,
+}
+
+/// A list of writes on a slice of `pages`, cut after the last one's filler.
+pub fn written(rng: &mut Rng, pages: usize) -> Sample {
+    let mut bytes = vec![0; pages * PAGE];
+    let data = rng.bytes(RECORD_MAX);
+    let mut fragments = Vec::new();
+    let mut place = 0;
+    for _ in 0..rng.below(300) {
+        let length = record_length(rng, segment::left_in_page(place));
+        if let Ok(next) = segment::write(&mut bytes, place, &data[..length]) {
+            add_fragments(&mut fragments, &bytes, place);
+            place = next;
+        }
+    }
+    bytes.truncate(place);
+    let start = 0;
+    Sample {
+        bytes,
+        start,
+        fragments,
+    }
+}
+
+/// Lengths that end near a page's edge as often as not.
+pub fn record_length(rng: &mut Rng, left: usize) -> usize {
+    let length = match rng.below(12) {
+        0..=5 => rng.below(60),
+        6 | 7 => rng.below(2_000),
+        8 => rng.below(RECORD_MAX + 1),
+        9 => (left + 20).saturating_sub(rng.below(40) + HEADER),
+        10 => (left + PAGE).saturating_sub(rng.below(20) + 2 * HEADER),
+        _ => rng.below(3),
+    };
+    length.min(RECORD_MAX)
+}
+
+/// The fragments of the record written at a place.
+fn add_fragments(fragments: &mut Vec<Fragment>, bytes: &[u8], record: usize) {
+    let mut start = record;
+    loop {
+        let length = u16::from_be_bytes([bytes[start + 1], bytes[start + 2]]);
+        let end = start + HEADER + usize::from(length);
+        fragments.push(Fragment { start, end, record });
+        if bytes[start] == FULL || bytes[start] == LAST {
+            return;
+        }
+        start = end;
+    }
+}
+
+/// How the fragments of a foreign segment are split.
+#[derive(Clone, Copy, PartialEq)]
+pub enum Splitting {
+    /// Short ones, several in a page, length 0 among them.
+    Short,
+    /// Records whose length is near 65,536 or above it.
+    Long,
+}
+
+/// Fragments put down one by one from some place on, as no writer of ours splits them; now and
+/// then with a wrong kind, a wrong sum or a filler that is not zero.
+pub fn foreign(rng: &mut Rng, splitting: Splitting) -> Sample {
+    let start = foreign_start(rng);
+    let mut maker = Maker {
+        bytes: rng.bytes(start),
+        fragments: Vec::new(),
+        open: None,
+        length: 0,
+    };
+    let count = match splitting {
+        Splitting::Short => rng.below(30),
+        Splitting::Long => 3 + rng.below(12),
+    };
+    for _ in 0..count {
+        if maker.bytes.len() >= (PAGES_MAX - 1) * PAGE {
+            break;
+        }
+        let wanted = maker.data_length(rng, splitting);
+        maker.add_fragment(rng, wanted);
+    }
+    Sample {
+        bytes: maker.bytes,
+        start,
+        fragments: maker.fragments,
+    }
+}
+
+/// Near the end of a page, or anywhere in the first.
+fn foreign_start(rng: &mut Rng) -> usize {
+    match rng.below(4) {
+        0 => 0,
+        1 => rng.below(PAGE),
+        _ => PAGE - 1 - rng.below(80),
+    }
+}
+
+struct Maker {
+    bytes: Vec<u8>,
+    fragments: Vec<Fragment>,
+    /// The start of the open record.
+    open: Option<usize>,
+    /// The data of the open record so far.
+    length: usize,
+}
+
+impl Maker {
+    fn left(&self) -> usize {
+        segment::left_in_page(self.bytes.len())
+    }
+
+    fn data_length(&self, rng: &mut Rng, splitting: Splitting) -> usize {
+        let room = self.left().saturating_sub(HEADER);
+        let near_limit = (RECORD_MAX + 3).saturating_sub(self.length + rng.below(6));
+        match (splitting, rng.below(8)) {
+            (_, 0) => 0,
+            (Splitting::Long, 1..=5) if near_limit <= room => near_limit,
+            (Splitting::Long, 1..=6) => room,
+            (_, 1) => room.saturating_sub(rng.below(14)),
+            (_, 2) => rng.below(1_000),
+            _ => rng.below(20),
+        }
+    }
+
+    /// A fragment of at most `wanted` bytes after the filler that is due.
+    fn add_fragment(&mut self, rng: &mut Rng, wanted: usize) {
+        self.add_filler(rng);
+        let length = wanted.min(self.left() - HEADER);
+        let kind = self.kind(rng, length);
+        let start = self.bytes.len();
+        let record = *self.open.get_or_insert(start);
+        let data = rng.bytes(length);
+        let mut sum = crc32c::checksum(&data);
+        if rng.once_in(200) {
+            sum ^= 1 << rng.below(32);
+        }
+        self.bytes.push(kind);
+        self.bytes.extend((length as u16).to_be_bytes());
+        self.bytes.extend(sum.to_be_bytes());
+        self.bytes.extend(data);
+        let end = self.bytes.len();
+        self.fragments.push(Fragment { start, end, record });
+        self.length += length;
+        if kind == FULL || kind == LAST {
+            self.open = None;
+            self.length = 0;
+        }
+    }
+
+    fn add_filler(&mut self, rng: &mut Rng) {
+        if self.left() >= HEADER {
+            return;
+        }
+        for _ in 0..self.left() {
+            let byte = if rng.once_in(300) { rng.byte() } else { 0 };
+            self.bytes.push(byte);
+        }
+    }
+
+    fn kind(&self, rng: &mut Rng, length: usize) -> u8 {
+        if rng.once_in(100) {
+            return rng.byte() & 0b111;
+        }
+        let long_enough = self.length + length > RECORD_MAX - 4;
+        match self.open {
+            None => rng.pick(&[FULL, FIRST, FIRST]),
+            Some(_) if long_enough => rng.pick(&[MIDDLE, LAST, LAST, LAST]),
+            Some(_) => rng.pick(&[MIDDLE, MIDDLE, MIDDLE, LAST]),
+        }
+    }
+}
+
+/// A few bytes, most of them such as headers have.
+pub fn noise(rng: &mut Rng, bytes: &mut Vec<u8>) {
+    bytes.clear();
+    for _ in 0..rng.below(48) {
+        let byte = match rng.below(8) {
+            0 => rng.byte(),
+            1..=3 => 0,
+            _ => rng.byte() % 6,
+        };
+        bytes.push(byte);
+    }
+}

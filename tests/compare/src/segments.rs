@@ -1,0 +1,717 @@
+//! Writing and reading of segments against the second program: answer, `out`, every byte of the
+//! slice and of the buffer.
+
+use crate::checksums::own_table;
+use crate::ffi::{self, Answer, Table, END};
+use crate::generate::{self, Fragment, Sample, Splitting};
+use crate::rng::Rng;
+use crate::twin::Twin;
+use crate::Outcome;
+use reference::refusal::Refusal;
+use reference::segment::{self, Reading, HEADER, PAGE, RECORD_MAX, SEGMENT_MAX};
+
+/// A group's name and its cases.
+pub type Group = (&'static str, fn(&mut Rng) -> Outcome);
+
+pub fn groups() -> Vec<Group> {
+    vec![
+        ("write, places and lengths", compare_writes),
+        ("write, lists of calls", compare_write_lists),
+        ("write, bad slices", compare_bad_slices),
+        ("write, at the limit", compare_write_limit),
+        ("read, written segments", compare_written),
+        ("read, cuts", compare_cuts),
+        ("read, damage", compare_damage),
+        ("read, tails of zeros", compare_tails),
+        ("read, foreign splittings", compare_foreign),
+        ("read, foreign long records", compare_foreign_long),
+        ("read, random bytes", compare_noise),
+        ("read, bad lengths and places", compare_bad_lengths),
+        ("read, at the limit", compare_read_limit),
+        #[cfg(feature = "tables")]
+        ("strange tables", strange::compare_strange_tables),
+    ]
+}
+
+/// Pages of the longest slice, the limit's cases aside.
+const PAGES: usize = generate::PAGES_MAX;
+
+/// The lent bytes, used again from case to case.
+struct Bench {
+    segment: Twin,
+    buffer: Twin,
+    /// Noise to take the records from.
+    records: Twin,
+    table: Box<Table>,
+    /// Decides between the plain call and the one with a lent table.
+    coin: Rng,
+    cases: u64,
+}
+
+impl Bench {
+    fn new(rng: &mut Rng) -> Bench {
+        let segment = Twin::new(rng, PAGES * PAGE);
+        Bench::with_segment(rng, segment)
+    }
+
+    fn with_segment(rng: &mut Rng, segment: Twin) -> Bench {
+        let buffer = Twin::new(rng, RECORD_MAX + 64);
+        let records = Twin::new(rng, RECORD_MAX + 6_000);
+        let table = own_table();
+        let coin = Rng::new(rng.number());
+        let cases = 0;
+        Bench {
+            segment,
+            buffer,
+            records,
+            table,
+            coin,
+            cases,
+        }
+    }
+
+    /// Puts a sample into the segment, at any alignment.
+    fn put(&mut self, rng: &mut Rng, sample: &Sample) {
+        self.segment.shift(rng);
+        self.buffer.shift(rng);
+        self.segment.put(&sample.bytes);
+        if rng.once_in(8) {
+            self.buffer.refill(rng);
+        }
+    }
+
+    /// Reads the first `length` bytes of the segment at a place, with a lent table or without.
+    fn read(&mut self, length: usize, place: usize) -> Result<Answer<3>, String> {
+        self.read_into(length, place, RECORD_MAX)
+    }
+
+    fn read_into(
+        &mut self,
+        length: usize,
+        place: usize,
+        buffer: usize,
+    ) -> Result<Answer<3>, String> {
+        let lent = cfg!(feature = "tables") && self.coin.once_in(2);
+        self.cases += 1;
+        let (ours, theirs) = self.segment.both(0..length);
+        let (our_buffer, their_buffer) = self.buffer.both(0..buffer);
+        let got = if lent {
+            read_with_table(&self.table, ours, place, our_buffer)
+        } else {
+            ffi::read(ours, place, our_buffer)
+        };
+        let wanted = read_answer(segment::read(theirs, place, their_buffer));
+        let what = || format!("read at {place} of {length} bytes into {buffer}, table {lent}");
+        self.compare((length, place), got, wanted, what)?;
+        Ok(wanted)
+    }
+
+    /// Writes a record of `size` bytes into the first `length` bytes of the segment, likewise.
+    fn write(&mut self, length: usize, place: usize, size: usize) -> Result<Answer<2>, String> {
+        let lent = cfg!(feature = "tables") && self.coin.once_in(2);
+        self.cases += 1;
+        let start = self.cases as usize % 64;
+        let (our_record, their_record) = self.records.both(start..start + size);
+        let (ours, theirs) = self.segment.both(0..length);
+        let got = if lent {
+            write_with_table(&self.table, ours, place, our_record)
+        } else {
+            ffi::write(ours, place, our_record)
+        };
+        let wanted = write_answer(place, segment::write(theirs, place, their_record));
+        let what = || format!("write of {size} at {place} of {length} bytes, table {lent}");
+        self.compare((length, place), got, wanted, what)?;
+        Ok(wanted)
+    }
+
+    /// The answer, then every lent byte and the guards around them. Of segments at the limit the
+    /// bytes are compared at the group's end.
+    fn compare<const N: usize>(
+        &self,
+        (length, place): (usize, usize),
+        got: Answer<N>,
+        wanted: Answer<N>,
+        what: impl Fn() -> String,
+    ) -> Result<(), String> {
+        if got != wanted {
+            let from = place.min(length);
+            let bytes = self.segment.bytes(from..length.min(from + 48));
+            return Err(format!(
+                "{}: got {got:?}, wanted {wanted:?}; the bytes there are {bytes:02X?}",
+                what()
+            ));
+        }
+        if length <= PAGES * PAGE && !self.segment.equal_to(length) {
+            let place = self.segment.first_difference();
+            return Err(format!("{}: segment differs at {place:?}", what()));
+        }
+        for (name, twin) in [("buffer", &self.buffer), ("record", &self.records)] {
+            if !twin.equal_to(usize::MAX) {
+                let place = twin.first_difference();
+                return Err(format!("{}: {name} differs at {place:?}", what()));
+            }
+        }
+        Ok(())
+    }
+
+    /// Reads records from a place on until none comes.
+    fn read_on(&mut self, length: usize, start: usize) -> Result<(), String> {
+        let mut place = start;
+        loop {
+            let answer = self.read(length, place)?;
+            if answer.number != 0 {
+                return Ok(());
+            }
+            place = answer.out[2] as usize;
+        }
+    }
+}
+
+#[cfg(feature = "tables")]
+use ffi::{read_with_table, write_with_table};
+
+#[cfg(not(feature = "tables"))]
+fn read_with_table(_: &Table, segment: &[u8], place: usize, buffer: &mut [u8]) -> Answer<3> {
+    ffi::read(segment, place, buffer)
+}
+
+#[cfg(not(feature = "tables"))]
+fn write_with_table(_: &Table, segment: &mut [u8], place: usize, record: &[u8]) -> Answer<2> {
+    ffi::write(segment, place, record)
+}
+
+/// What `depot_wal_read` has to answer.
+fn read_answer(reading: Result<Reading, Refusal>) -> Answer<3> {
+    match reading {
+        Ok(Reading::Record(record)) => Answer::new(
+            0,
+            [
+                record.start as u64,
+                record.length as u64,
+                record.after as u64,
+            ],
+        ),
+        Ok(Reading::End) => Answer::new(END, [0; 3]),
+        Err(refusal) => Answer::new(refusal.number, [refusal.place as u64, 0, 0]),
+    }
+}
+
+/// What `depot_wal_write` has to answer: after a refusal the place given comes first.
+fn write_answer(place: usize, written: Result<usize, Refusal>) -> Answer<2> {
+    match written {
+        Ok(next) => Answer::new(0, [next as u64, 0]),
+        Err(refusal) => Answer::new(refusal.number, [place as u64, refusal.place as u64]),
+    }
+}
+
+// ---- Writing ----
+
+/// Places near the pages' edges, anywhere, and past the end.
+fn any_place(rng: &mut Rng, length: usize) -> usize {
+    match rng.below(16) {
+        0..=9 => (rng.below(length / PAGE + 2) * PAGE + 24).saturating_sub(rng.below(64)),
+        10..=13 => rng.below(length + 1),
+        14 => length + rng.below(20),
+        _ => rng.pick(&[
+            usize::MAX,
+            usize::MAX - 1,
+            usize::MAX - 6,
+            usize::MAX - 32_767,
+            usize::MAX / 2,
+            usize::MAX / 2 + 1,
+            1 << 32,
+            (1 << 32) + 7,
+        ]),
+    }
+}
+
+/// Lengths near what fits from a place, near the limits, and short ones.
+fn any_length(rng: &mut Rng, length: usize, place: usize) -> usize {
+    let left = segment::left_in_page(place);
+    let pages_after = length.saturating_sub(place.saturating_add(left)) / PAGE;
+    let room = left.saturating_sub(HEADER) + pages_after * (PAGE - HEADER);
+    match rng.below(16) {
+        0..=5 => rng.below(64),
+        6 => rng.below(2_000),
+        7 | 8 => (left + 8).saturating_sub(rng.below(24)),
+        9 | 10 => (room + 4).saturating_sub(rng.below(8)).min(RECORD_MAX + 8),
+        11 => RECORD_MAX + 3 - rng.below(6),
+        12 => RECORD_MAX + rng.below(5_000),
+        _ => rng.below(4),
+    }
+}
+
+/// Single writes into slices of 1 to 3 pages that hold anything.
+fn compare_writes(rng: &mut Rng) -> Outcome {
+    let mut bench = Bench::new(rng);
+    for _ in 0..120_000 {
+        let length = PAGE * (1 + rng.below(3));
+        let place = any_place(rng, length);
+        let size = any_length(rng, length, place);
+        bench.write(length, place, size)?;
+        if rng.once_in(500) {
+            bench.segment.refill(rng);
+            bench.segment.shift(rng);
+        }
+    }
+    Ok(bench.cases)
+}
+
+/// Lists of writes from place 0, refused ones among them, each at the place that `out` names; then
+/// what was written is read back.
+fn compare_write_lists(rng: &mut Rng) -> Outcome {
+    let mut bench = Bench::new(rng);
+    for _ in 0..200 {
+        bench.segment.refill(rng);
+        bench.segment.shift(rng);
+        let length = PAGE * (1 + rng.below(PAGES));
+        let mut place = 0;
+        for _ in 0..rng.below(200) {
+            let size = any_length(rng, length, place);
+            place = bench.write(length, place, size)?.out[0] as usize;
+        }
+        bench.read_on(place, 0)?;
+        bench.read_on(length, 0)?;
+    }
+    Ok(bench.cases)
+}
+
+/// Slices that are no whole pages, or none at all.
+fn compare_bad_slices(rng: &mut Rng) -> Outcome {
+    let mut bench = Bench::new(rng);
+    for _ in 0..20_000 {
+        let length = match rng.below(4) {
+            0 => 0,
+            1 => rng.below(40),
+            2 => PAGE * (1 + rng.below(3)) + 3 - rng.below(6),
+            _ => rng.below(3 * PAGE),
+        };
+        let place = any_place(rng, length);
+        let size = any_length(rng, length, place);
+        bench.write(length, place, size)?;
+    }
+    Ok(bench.cases)
+}
+
+/// The longest slice, one a byte shorter, and slices one byte and one page longer.
+const NEAR_LIMIT: [usize; 4] = [
+    SEGMENT_MAX - 1,
+    SEGMENT_MAX,
+    SEGMENT_MAX + 1,
+    SEGMENT_MAX + PAGE,
+];
+
+fn compare_write_limit(rng: &mut Rng) -> Outcome {
+    let segment = Twin::zeroed(rng, SEGMENT_MAX + PAGE);
+    let mut bench = Bench::with_segment(rng, segment);
+    for length in NEAR_LIMIT.repeat(2) {
+        for back in [
+            SEGMENT_MAX,
+            2 * PAGE + 7,
+            2 * PAGE,
+            PAGE,
+            PAGE - 1,
+            8,
+            7,
+            6,
+            1,
+            0,
+        ] {
+            for size in [0, 1, 2, 32_761, 32_762, RECORD_MAX, RECORD_MAX + 1] {
+                bench.write(length, SEGMENT_MAX - back, size)?;
+            }
+        }
+        for place in [SEGMENT_MAX + 1, SEGMENT_MAX + PAGE, usize::MAX] {
+            bench.write(length, place, 1)?;
+        }
+    }
+    whole_equal(&bench)
+}
+
+/// The bytes of a segment at the limit, once for all its cases.
+fn whole_equal(bench: &Bench) -> Outcome {
+    if bench.segment.equal_to(SEGMENT_MAX + PAGE) {
+        return Ok(bench.cases);
+    }
+    let place = bench.segment.first_difference();
+    Err(format!("the segment differs at {place:?}"))
+}
+
+// ---- Reading ----
+
+/// Written segments read from the start, and from any place.
+fn compare_written(rng: &mut Rng) -> Outcome {
+    let mut bench = Bench::new(rng);
+    for _ in 0..300 {
+        let pages = 1 + rng.below(PAGES);
+        let sample = generate::written(rng, pages);
+        bench.put(rng, &sample);
+        let length = sample.bytes.len();
+        bench.read_on(length, 0)?;
+        for _ in 0..40 {
+            bench.read(length, rng.below(length + 1))?;
+        }
+    }
+    Ok(bench.cases)
+}
+
+/// A written or a foreign segment.
+fn any_sample(rng: &mut Rng) -> Sample {
+    let pages = 1 + rng.below(3);
+    match rng.below(3) {
+        0 | 1 => generate::written(rng, pages),
+        _ => generate::foreign(rng, Splitting::Short),
+    }
+}
+
+/// Some fragments of a sample; the last ones always, since they are near the end.
+fn some_fragments(rng: &mut Rng, sample: &Sample) -> Vec<Fragment> {
+    let count = sample.fragments.len();
+    let few = |index: usize| index + 4 > count;
+    let near_edge = |end: usize| segment::left_in_page(end) < 16;
+    let mut chosen = Vec::new();
+    for (index, fragment) in sample.fragments.iter().enumerate() {
+        if few(index) || near_edge(fragment.end) || rng.once_in(12) {
+            chosen.push(*fragment);
+        }
+    }
+    chosen
+}
+
+/// Segments cut at every place near the edges of fragments and pages.
+fn compare_cuts(rng: &mut Rng) -> Outcome {
+    let mut bench = Bench::new(rng);
+    for _ in 0..900 {
+        let sample = any_sample(rng);
+        bench.put(rng, &sample);
+        let length = sample.bytes.len();
+        for fragment in some_fragments(rng, &sample) {
+            let header = fragment.start..fragment.start + HEADER + 3;
+            let end = fragment.end.saturating_sub(3)..fragment.end + 10;
+            for cut in header.chain(end).filter(|&cut| cut <= length) {
+                bench.read(cut, fragment.record.min(cut))?;
+                if rng.once_in(20) {
+                    bench.read(cut, fragment.end.min(cut))?;
+                }
+            }
+        }
+        let cut = rng.below(length + 1);
+        bench.read_on(cut, sample.start.min(cut))?;
+    }
+    Ok(bench.cases)
+}
+
+/// One byte of a header, of the data or of the filler changed, then put back.
+fn compare_damage(rng: &mut Rng) -> Outcome {
+    let mut bench = Bench::new(rng);
+    for _ in 0..700 {
+        let sample = any_sample(rng);
+        bench.put(rng, &sample);
+        for fragment in some_fragments(rng, &sample) {
+            damage_types(rng, &mut bench, &sample, fragment)?;
+            damage_rest(rng, &mut bench, &sample, fragment)?;
+        }
+    }
+    Ok(bench.cases)
+}
+
+/// Every low type byte, and some of the others.
+fn damage_types(
+    rng: &mut Rng,
+    bench: &mut Bench,
+    sample: &Sample,
+    fragment: Fragment,
+) -> Result<(), String> {
+    for type_byte in 0..8 {
+        damage(rng, bench, sample, fragment, fragment.start, type_byte)?;
+    }
+    for _ in 0..4 {
+        let type_byte = rng.byte();
+        damage(rng, bench, sample, fragment, fragment.start, type_byte)?;
+    }
+    Ok(())
+}
+
+/// Each other byte of the header, some bytes of the data, each byte of filler.
+fn damage_rest(
+    rng: &mut Rng,
+    bench: &mut Bench,
+    sample: &Sample,
+    fragment: Fragment,
+) -> Result<(), String> {
+    let header = fragment.start + 1..fragment.start + HEADER;
+    let filler = fragment.end..fragment.end + 6;
+    let data = fragment.end - fragment.start - HEADER;
+    for place in header.chain(filler) {
+        let byte = match rng.below(3) {
+            0 => rng.byte(),
+            1 => bench.segment.bytes(place..place + 1)[0] ^ 1 << rng.below(8),
+            _ => bench.segment.bytes(place..place + 1)[0].wrapping_add(1),
+        };
+        damage(rng, bench, sample, fragment, place, byte)?;
+    }
+    for _ in 0..data.min(4) {
+        let place = fragment.start + HEADER + rng.below(data);
+        let byte = rng.byte();
+        damage(rng, bench, sample, fragment, place, byte)?;
+    }
+    Ok(())
+}
+
+/// Reads with one byte changed, whole and sometimes cut.
+fn damage(
+    rng: &mut Rng,
+    bench: &mut Bench,
+    sample: &Sample,
+    fragment: Fragment,
+    place: usize,
+    byte: u8,
+) -> Result<(), String> {
+    let length = sample.bytes.len();
+    if place >= length {
+        return Ok(());
+    }
+    let old = sample.bytes[place];
+    bench.segment.put_at(place, &[byte]);
+    bench.read(length, fragment.record)?;
+    if rng.once_in(3) {
+        let cut = fragment.record + rng.below(length - fragment.record + 1);
+        bench.read(cut, fragment.record)?;
+    }
+    bench.segment.put_at(place, &[old]);
+    Ok(())
+}
+
+/// Cut segments with zeros after the cut, up to a page's end or not, with or without another byte
+/// among the zeros.
+fn compare_tails(rng: &mut Rng) -> Outcome {
+    let mut bench = Bench::new(rng);
+    let zeros = vec![0; PAGES * PAGE];
+    for _ in 0..3_000 {
+        let mut sample = generate::foreign(rng, Splitting::Short);
+        let cut = match sample.fragments.len() {
+            0 => sample.start,
+            count => {
+                let fragment = sample.fragments[rng.below(count)];
+                fragment.start + rng.below(fragment.end - fragment.start + 8)
+            }
+        };
+        sample.bytes.truncate(cut);
+        let length = tail_end(rng, sample.bytes.len()).min(PAGES * PAGE);
+        let kept = sample.bytes.len().min(length);
+        sample.bytes.truncate(kept);
+        bench.put(rng, &sample);
+        bench.segment.put_at(kept, &zeros[kept..length]);
+        let start = sample.start.min(length);
+        bench.read_on(length, start)?;
+        for _ in 0..8 {
+            bench.read(length, start + rng.below(length - start + 1))?;
+        }
+        if kept < length {
+            let place = kept + rng.below(length - kept).min(rng.below(60));
+            bench.segment.put_at(place, &[rng.byte() % 5]);
+            bench.read_on(length, start)?;
+            bench.read(length, kept)?;
+        }
+    }
+    Ok(bench.cases)
+}
+
+/// Where the zeros end.
+fn tail_end(rng: &mut Rng, cut: usize) -> usize {
+    let page_end = cut + segment::left_in_page(cut);
+    match rng.below(4) {
+        0 => cut + rng.below(40),
+        1 => page_end,
+        2 => page_end + PAGE * rng.below(2) + rng.below(10),
+        _ => page_end - rng.below(10).min(page_end - cut),
+    }
+}
+
+fn compare_foreign(rng: &mut Rng) -> Outcome {
+    compare_splitting(rng, Splitting::Short, 4_000)
+}
+
+fn compare_foreign_long(rng: &mut Rng) -> Outcome {
+    compare_splitting(rng, Splitting::Long, 600)
+}
+
+/// Foreign segments read from their start, from each fragment and from any place.
+fn compare_splitting(rng: &mut Rng, splitting: Splitting, samples: usize) -> Outcome {
+    let mut bench = Bench::new(rng);
+    for _ in 0..samples {
+        let sample = generate::foreign(rng, splitting);
+        bench.put(rng, &sample);
+        let length = sample.bytes.len();
+        bench.read_on(length, sample.start.min(length))?;
+        for fragment in &sample.fragments {
+            bench.read(length, fragment.start.min(length))?;
+        }
+        for _ in 0..10 {
+            let cut = length - rng.below(200).min(length);
+            bench.read(cut, sample.start.min(cut))?;
+        }
+    }
+    Ok(bench.cases)
+}
+
+/// Short segments of any bytes, at the start of a page and across a page's edge.
+fn compare_noise(rng: &mut Rng) -> Outcome {
+    let mut bench = Bench::new(rng);
+    let mut bytes = Vec::new();
+    for case in 0..250_000 {
+        generate::noise(rng, &mut bytes);
+        let origin = match case % 4 {
+            0 => PAGE - 1 - rng.below(30),
+            _ => 0,
+        };
+        bench.segment.put_at(origin, &bytes);
+        let length = origin + bytes.len();
+        let place = origin + rng.below(bytes.len() + 1);
+        bench.read(length, place)?;
+        if origin == 0 && rng.once_in(2) {
+            bench.read(length, 0)?;
+        }
+    }
+    Ok(bench.cases)
+}
+
+/// Buffers too short or longer than needed, places past the end.
+fn compare_bad_lengths(rng: &mut Rng) -> Outcome {
+    let mut bench = Bench::new(rng);
+    for _ in 0..2_000 {
+        let sample = any_sample(rng);
+        bench.put(rng, &sample);
+        let length = sample.bytes.len();
+        for _ in 0..20 {
+            let buffer = match rng.below(4) {
+                0 => rng.below(RECORD_MAX),
+                1 => rng.pick(&[0, 1, RECORD_MAX - 1]),
+                2 => RECORD_MAX,
+                _ => RECORD_MAX + rng.below(48),
+            };
+            let cut = rng.pick(&[0, length, length]);
+            let place = match rng.below(3) {
+                0 => sample.start,
+                _ => any_place(rng, cut),
+            };
+            bench.read_into(cut, place, buffer)?;
+        }
+    }
+    Ok(bench.cases)
+}
+
+fn compare_read_limit(rng: &mut Rng) -> Outcome {
+    let segment = Twin::zeroed(rng, SEGMENT_MAX + PAGE);
+    let mut bench = Bench::with_segment(rng, segment);
+    let last_page = SEGMENT_MAX - PAGE;
+    bench.segment.put_at(last_page, &[1, 0, 0, 0, 0, 0, 0]);
+    bench.segment.put_at(last_page + 7, &[2, 0, 0, 0, 0, 0, 0]);
+    for length in NEAR_LIMIT.repeat(2) {
+        for place in [
+            0,
+            1,
+            last_page - 3,
+            last_page,
+            last_page + 7,
+            last_page + 14,
+            SEGMENT_MAX - 7,
+            SEGMENT_MAX - 6,
+            SEGMENT_MAX - 1,
+            SEGMENT_MAX,
+            SEGMENT_MAX + 1,
+            SEGMENT_MAX + PAGE,
+            usize::MAX,
+        ] {
+            bench.read(length, place)?;
+        }
+    }
+    whole_equal(&bench)
+}
+
+/// A real segment, read whole, cut anywhere, and from any place.
+pub fn compare_file(rng: &mut Rng, bytes: &[u8]) -> Outcome {
+    let segment = Twin::new(rng, bytes.len());
+    let mut bench = Bench::with_segment(rng, segment);
+    bench.segment.put(bytes);
+    bench.read_on(bytes.len(), 0)?;
+    for _ in 0..20 {
+        bench.read_on(rng.below(bytes.len() + 1), 0)?;
+    }
+    for _ in 0..1_000 {
+        bench.read(bytes.len(), rng.below(bytes.len() + 1))?;
+    }
+    Ok(bench.cases)
+}
+
+// ---- Tables with other contents ----
+
+#[cfg(feature = "tables")]
+mod strange {
+    use super::*;
+
+    /// "gives sums that no reader accepts, and nothing worse": the same answer, and the same bytes
+    /// but for the sums; a reading with such a table changes no byte unless it yields a record.
+    pub fn compare_strange_tables(rng: &mut Rng) -> Outcome {
+        let mut bench = Bench::new(rng);
+        for _ in 0..3_000 {
+            for number in bench.table.iter_mut() {
+                *number = rng.number() as u32;
+            }
+            let length = PAGE * (1 + rng.below(3));
+            let place = any_place(rng, length);
+            let size = any_length(rng, length, place);
+            strange_write(&mut bench, length, place, size)?;
+            strange_read(&mut bench, length, place)?;
+        }
+        Ok(bench.cases)
+    }
+
+    fn strange_write(
+        bench: &mut Bench,
+        length: usize,
+        place: usize,
+        size: usize,
+    ) -> Result<(), String> {
+        bench.cases += 1;
+        let (our_record, their_record) = bench.records.both(0..size);
+        let (ours, theirs) = bench.segment.both(0..length);
+        let got = write_with_table(&bench.table, ours, place, our_record);
+        let wanted = write_answer(place, segment::write(theirs, place, their_record));
+        if wanted.number == 0 {
+            copy_sums(ours, theirs, place);
+        }
+        let what = || format!("strange table, write of {size} at {place}");
+        bench.compare((length, place), got, wanted, what)
+    }
+
+    /// Takes over the sums of the record written at a place.
+    fn copy_sums(ours: &[u8], theirs: &mut [u8], mut place: usize) {
+        loop {
+            let sum = place + 3..place + HEADER;
+            theirs[sum.clone()].copy_from_slice(&ours[sum]);
+            let kind = theirs[place];
+            if kind == segment::FULL || kind == segment::LAST {
+                return;
+            }
+            place += segment::left_in_page(place);
+        }
+    }
+
+    fn strange_read(bench: &mut Bench, length: usize, place: usize) -> Result<(), String> {
+        bench.cases += 1;
+        let (ours, _) = bench.segment.both(0..length);
+        let (our_buffer, their_buffer) = bench.buffer.both(0..RECORD_MAX);
+        let got = read_with_table(&bench.table, ours, place, our_buffer);
+        if got.number == 0 {
+            let filled = (got.out[1] as usize).min(RECORD_MAX);
+            their_buffer[..filled].copy_from_slice(&our_buffer[..filled]);
+        }
+        let what = || format!("strange table, read at {place}");
+        bench.compare((length, place), got, got, what)?;
+        match got.beside {
+            false => Ok(()),
+            true => Err(format!("{}: wrote beside out", what())),
+        }
+    }
+}
