@@ -11,7 +11,7 @@ test:
 	@tools/gate
 
 bench: archive
-	@cargo build --quiet --release --offline --manifest-path tests/compare/Cargo.toml --bin bench
+	@cargo build --quiet --release --offline --features tables --manifest-path tests/compare/Cargo.toml --bin bench
 	@build/cargo/release/bench
 
 archive:

@@ -412,5 +412,9 @@ pub fn sum(table: &[u32], bytes: &[u8]) -> u32
 pub fn checksum_with_table(table: &[u32; 2048], bytes: &[u8]) -> u32
     ensures { λ r. ⌜ r ≡ sumBy (now (table .entry)) (now (bytes .entry)) ⌝ }
 {
-    sum(table, bytes)
+    if 512 <= bytes.len() {
+        checksum(bytes)
+    } else {
+        sum_by_table(table, bytes)
+    }
 }

@@ -1,0 +1,105 @@
+-- Document 01, "Bodies": starting a body, and adding an entry to it.
+-- To be believed. Assumes nothing.
+use mathlib.Core.Bool.{Bool, cond, _||_, _&&_, not}
+use mathlib.Core.List.{List, [], _∷_, _++_}
+use Prim.Native.Nat.{ℕ, _+_, _/_, _%_}
+use lib.ListN.{length, getD, take, drop}
+use lib.Seq.{sets}
+use lib.Dec.{ltb, leb, eqb}
+use Rattle.wal_types.specs.declared.Refusal.{Refusal}
+use Rattle.wal_types.specs.declared.Refusal.the-variants.{BadPlace, TooLong, NoRoom, UnknownType, BadList, WrongKind}
+use Rattle.wal_types.specs.Terms.{offset}
+use Rattle.wal_types.specs.Deltas.{minus, toBits}
+use Rattle.varint.specs.Uvarint.{uvarint}
+use Rattle.varint.specs.Varint.{varint}
+use Rattle.varint.specs.Fixed.{be8, readBe8}
+use Rattle.body_format.specs.Entries.{typeByte, Known, known, unknown, kindOf, Entry, seriesEntry, sampleEntry, tombstoneEntry, exemplarEntry, metadataEntry, kindFor}
+
+-- ---- the bytes of an entry
+
+-- a string: its length (uvarint), and its bytes
+unfoldable pub textBytes : List ℕ → List ℕ
+textBytes t = uvarint (length t) ++ t
+
+unfoldable pub textsBytes : List (List ℕ) → List ℕ
+textsBytes [] = []
+textsBytes (t ∷ ts) = textBytes t ++ textsBytes ts
+
+-- a list of strings: half their number (uvarint), and the strings
+unfoldable pub textListBytes : List (List ℕ) → List ℕ
+textListBytes ts = uvarint (length ts / 2) ++ textsBytes ts
+
+-- a delta as it is written in a row
+abbrev pub deltaBytes : ℕ → List ℕ
+deltaBytes d = uvarint d
+
+-- The row of id, time (its 64 bits) and value, behind `used` bytes of the body that buffer b holds. The first entry brings the first id and the
+-- first timestamp, and a row with both deltas 0; a later one has its deltas to those in bytes 1 to 16, modulo 2^64.
+unfoldable pub rowBytes : List ℕ → ℕ → ℕ → ℕ → ℕ → List ℕ
+rowBytes b used id time v =
+    cond (eqb used 1) (be8 id ++ (be8 time ++ (deltaBytes 0 ++ (deltaBytes 0 ++ be8 v))))
+    (deltaBytes (minus id (readBe8 (drop 1 b))) ++ (deltaBytes (minus time (readBe8 (drop 9 b))) ++ be8 v))
+
+-- the bytes that an entry puts down behind `used` bytes of the body that buffer b holds
+unfoldable pub entryBytes : List ℕ → ℕ → Entry → List ℕ
+entryBytes b used (seriesEntry id ts) = be8 id ++ textListBytes ts
+entryBytes b used (sampleEntry id time v) = rowBytes b used id (toBits time) v
+entryBytes b used (tombstoneEntry id min max) = be8 id ++ (varint min ++ varint max)
+entryBytes b used (exemplarEntry id time v ts) = rowBytes b used id (toBits time) v ++ textListBytes ts
+entryBytes b used (metadataEntry id metric ts) = uvarint id ++ (metric ∷ textListBytes ts)
+
+-- ---- strings as they are lent: one slice of bytes, and one of lengths
+
+-- the strings: each takes its length from the front of what is left
+unfoldable pub cutTexts : List ℕ → List ℕ → List (List ℕ)
+cutTexts bytes [] = []
+cutTexts bytes (n ∷ lengths) = take n bytes ∷ cutTexts (drop n bytes) lengths
+
+unfoldable pub total : List ℕ → ℕ
+total [] = 0
+total (n ∷ lengths) = n + total lengths
+
+-- BadList: an odd number of strings, or lengths that do not add up to the slice
+unfoldable pub badList : List ℕ → List ℕ → Bool
+badList bytes lengths = eqb (length lengths % 2) 1 || not (eqb (total lengths) (length bytes))
+
+-- ---- starting and adding
+
+-- what starting or adding comes to: the bytes of the body that are then used, or a refusal
+pub data Outcome : Type 0 where
+  used : ℕ → Outcome
+  refused : Refusal → Outcome
+
+-- starting a body of the type byte t in a buffer b: UnknownType, NoRoom
+abbrev pub startKnown : Known → List ℕ → Outcome
+startKnown (known k) b = cond (eqb (length b) 0) (refused (NoRoom (offset 0))) (used 1)
+startKnown unknown b = refused UnknownType
+
+unfoldable pub start : List ℕ → ℕ → Outcome
+start b t = startKnown (kindOf t) b
+
+-- the buffer afterwards: the type byte stands first
+abbrev pub startBytes : Outcome → List ℕ → ℕ → List ℕ
+startBytes (used n) b t = sets b 0 (t ∷ [])
+startBytes (refused why) b t = b
+
+-- A state is the type t and the u bytes used. It is BadPlace if these are 0, more than the buffer has, 2 to 16 for types 2 and 4, or if the buffer's first
+-- byte is not the type.
+unfoldable pub badState : List ℕ → ℕ → ℕ → Bool
+badState b t u =
+    eqb u 0 || (ltb (length b) u || (((eqb t 2 || eqb t 4) && (leb 2 u && leb u 16)) || not (eqb (getD b 0 0) t)))
+
+-- adding an entry to the state (t, u) of a body in buffer b, `bad` if its list of strings is: BadPlace, WrongKind, BadList, TooLong, NoRoom
+unfoldable pub add : List ℕ → ℕ → ℕ → Entry → Bool → Outcome
+add b t u e bad =
+    cond (badState b t u) (refused BadPlace)
+    (cond (not (eqb t (typeByte (kindFor e)))) (refused WrongKind)
+    (cond bad (refused BadList)
+    (cond (ltb 65536 (u + length (entryBytes b u e))) (refused (TooLong (offset u)))
+    (cond (ltb (length b) (u + length (entryBytes b u e))) (refused (NoRoom (offset u)))
+    (used (u + length (entryBytes b u e)))))))
+
+-- the buffer afterwards: the entry's bytes stand from the old place on, and a refusal changes no byte
+abbrev pub addBytes : Outcome → List ℕ → ℕ → Entry → List ℕ
+addBytes (used n) b u e = sets b u (entryBytes b u e)
+addBytes (refused why) b u e = b

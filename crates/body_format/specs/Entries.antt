@@ -1,0 +1,147 @@
+-- Document 01, "Bodies": the five types, and the list of entries that a body holds.
+-- To be believed. Assumes nothing.
+use mathlib.Core.Bool.{Bool, true, false, cond}
+use mathlib.Core.List.{List, [], _∷_}
+use Prim.Native.Nat.{ℕ, zero, suc}
+use lib.IntN.{ℤ}
+use lib.ListN.{length, drop}
+use lib.Dec.{eqb}
+use Rattle.wal_types.specs.Deltas.{plus, fromBits}
+use Rattle.varint.specs.Fixed.{readBe8}
+use Rattle.body_format.specs.Fields.{Field, got, andThen, byteAt, fixedAt, uvarintAt, varintAt, textListAt}
+
+-- ---- types
+
+pub data Kind : Type 0 where
+  series samples tombstones exemplars metadata : Kind
+
+-- the type byte of each
+abbrev pub typeByte : Kind → ℕ
+typeByte series = 1
+typeByte samples = 2
+typeByte tombstones = 3
+typeByte exemplars = 4
+typeByte metadata = 6
+
+-- the type that a byte stands for, where it is one that is known
+pub data Known : Type 0 where
+  known : Kind → Known
+  unknown : Known
+
+unfoldable pub kindOf : ℕ → Known
+kindOf b =
+    cond (eqb b 1) (known series)
+    (cond (eqb b 2) (known samples)
+    (cond (eqb b 3) (known tombstones)
+    (cond (eqb b 4) (known exemplars)
+    (cond (eqb b 6) (known metadata) unknown))))
+
+-- samples and exemplars have rows, behind a first id and a first timestamp
+abbrev pub hasRows : Kind → Bool
+hasRows series = false
+hasRows samples = true
+hasRows tombstones = false
+hasRows exemplars = true
+hasRows metadata = false
+
+-- ---- entries
+
+-- ids and values are numbers below 2^64, times are signed, a metric type is a byte, and a string is a list of bytes
+pub data Entry : Type 0 where
+  seriesEntry : ℕ → List (List ℕ) → Entry
+  sampleEntry : ℕ → ℤ → ℕ → Entry
+  tombstoneEntry : ℕ → ℤ → ℤ → Entry
+  exemplarEntry : ℕ → ℤ → ℕ → List (List ℕ) → Entry
+  metadataEntry : ℕ → ℕ → List (List ℕ) → Entry
+
+-- the type of the bodies that an entry belongs in
+abbrev pub kindFor : Entry → Kind
+kindFor (seriesEntry id ts) = series
+kindFor (sampleEntry id time bits) = samples
+kindFor (tombstoneEntry id min max) = tombstones
+kindFor (exemplarEntry id time bits ts) = exemplars
+kindFor (metadataEntry id metric ts) = metadata
+
+-- an entry as it stands in a body, with the place where its strings begin; where it has none, that is the place after it
+pub record Placed : Type 0 where
+  pub entry : Entry
+  pub first : ℕ
+
+-- a row's id, time and value
+pub record Row : Type 0 where
+  pub id : ℕ
+  pub time : ℤ
+  pub bits : ℕ
+
+-- a delta as it stands in a row
+abbrev pub deltaAt : List ℕ → ℕ → Field ℕ
+deltaAt s p = uvarintAt s p
+
+-- id delta, timestamp delta, value (8). A delta is added modulo 2^64 to the first id, bytes 1 to 8, or to the first timestamp, bytes 9 to 16.
+unfoldable pub rowAt : List ℕ → ℕ → Field Row
+rowAt s p =
+    andThen (deltaAt s p) (λ d q.
+    andThen (deltaAt s q) (λ e r.
+    andThen (fixedAt s r) (λ v next.
+    got (record { id = plus (readBe8 (drop 1 s)) d; time = fromBits (plus (readBe8 (drop 9 s)) e); bits = v }) next)))
+
+-- 1: id (8), label count n (uvarint), 2n strings
+unfoldable pub seriesAt : List ℕ → ℕ → Field Placed
+seriesAt s p =
+    andThen (fixedAt s p) (λ id q.
+    andThen (textListAt s q) (λ l next.
+    got (record { entry = seriesEntry id (l .strings); first = l .first }) next))
+
+-- 2: a row
+unfoldable pub sampleAt : List ℕ → ℕ → Field Placed
+sampleAt s p = andThen (rowAt s p) (λ r next. got (record { entry = sampleEntry (r .id) (r .time) (r .bits); first = next }) next)
+
+-- 3: id (8), min and max time, each a signed varint
+unfoldable pub tombstoneAt : List ℕ → ℕ → Field Placed
+tombstoneAt s p =
+    andThen (fixedAt s p) (λ id q.
+    andThen (varintAt s q) (λ min r.
+    andThen (varintAt s r) (λ max next.
+    got (record { entry = tombstoneEntry id min max; first = next }) next)))
+
+-- 4: a row followed by n and 2n strings
+unfoldable pub exemplarAt : List ℕ → ℕ → Field Placed
+exemplarAt s p =
+    andThen (rowAt s p) (λ r q.
+    andThen (textListAt s q) (λ l next.
+    got (record { entry = exemplarEntry (r .id) (r .time) (r .bits) (l .strings); first = l .first }) next))
+
+-- 6: id (uvarint), metric type (1), field count (uvarint), then name and text strings
+unfoldable pub metadataAt : List ℕ → ℕ → Field Placed
+metadataAt s p =
+    andThen (uvarintAt s p) (λ id q.
+    andThen (byteAt s q) (λ metric r.
+    andThen (textListAt s r) (λ l next.
+    got (record { entry = metadataEntry id metric (l .strings); first = l .first }) next)))
+
+abbrev pub entryAt : Kind → List ℕ → ℕ → Field Placed
+entryAt series s p = seriesAt s p
+entryAt samples s p = sampleAt s p
+entryAt tombstones s p = tombstoneAt s p
+entryAt exemplars s p = exemplarAt s p
+entryAt metadata s p = metadataAt s p
+
+-- ---- the list of entries
+
+-- the entries from place p to the end of the body, at most n of them
+unfoldable pub entriesFrom : ℕ → Kind → List ℕ → ℕ → Field (List Entry)
+entriesFrom zero k s p = got [] p
+entriesFrom (suc n) k s p =
+    cond (eqb p (length s)) (got [] p)
+    (andThen (entryAt k s p) (λ e q. andThen (entriesFrom n k s q) (λ es r. got (e .entry ∷ es) r)))
+
+-- where the entries of a body begin: at place 1; in a body of rows that has any byte after its type, behind the first id (8) and the first timestamp (8)
+abbrev pub firstAt : Bool → List ℕ → Field ℕ
+firstAt false s = got 1 1
+firstAt true s =
+    cond (eqb (length s) 1) (got 1 1)
+    (andThen (fixedAt s 1) (λ id q. andThen (fixedAt s q) (λ time r. got r r)))
+
+-- the entries of a body of kind k, or its first fault from the left. Every entry has a byte, so there are no more than the body has bytes.
+unfoldable pub entries : Kind → List ℕ → Field (List Entry)
+entries k s = andThen (firstAt (hasRows k) s) (λ first p. entriesFrom (length s) k s first)

@@ -1,0 +1,12 @@
+-- Laws of the definitions, from the fields to whole lists of calls.
+pub mod Fields
+pub mod Bounds
+pub mod Kept
+pub mod Kinds
+pub mod Lists
+pub mod Strings
+pub mod Entries
+pub mod Additions
+pub mod Bodies
+pub mod Walks
+pub mod Built

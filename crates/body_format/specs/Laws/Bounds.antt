@@ -1,0 +1,150 @@
+-- Laws of places: a reading that succeeds goes forward by the bytes that its field has at least, and ends within the body.
+-- Assumes nothing.
+use mathlib.Core.Path.{_≡_, refl, subst}
+use mathlib.Core.Bool.{Bool, true, false, cond}
+use mathlib.Core.List.{List}
+use Prim.Native.Nat.{ℕ, zero, suc, _+_, _*_, _≤_, _<_}
+use native.Mathlib.Omega.{arith}
+use borrow.Author.Tests.{ltb-true, ltb-false}
+use lib.ListN.{length, take, drop, length-drop}
+use lib.Dec.{ltb}
+use Rattle.wal_types.specs.declared.Refusal.the-variants.{Short}
+use Rattle.wal_types.specs.Terms.{offset}
+use Rattle.varint.specs.declared.UvarintRead.{UvarintRead}
+use Rattle.varint.specs.declared.UvarintRead.the-variants as u
+use Rattle.varint.specs.declared.VarintRead.{VarintRead}
+use Rattle.varint.specs.declared.VarintRead.the-variants as v
+use Rattle.varint.specs.Uvarint.{readUvarint}
+use Rattle.varint.specs.UvarintLaws.{taken}
+use Rattle.varint.specs.Varint.{readVarint}
+use Rattle.varint.specs.VarintLaws.{taken-varint}
+use Rattle.body_format.specs.Fields.{Field, got, fault, andThen, byteAt, fixedAt, uvarintOf, uvarintAt, varintOf, varintAt, Text, textAt, textsAt, textListAt}
+use Rattle.body_format.specs.Entries.{Kind, series, samples, tombstones, exemplars, metadata, rowAt, seriesAt, sampleAt, tombstoneAt, exemplarAt, metadataAt, entryAt}
+use Rattle.body_format.specs.Laws.Fields.{byte-got, byte-short, fixed-got, fixed-short}
+
+-- ---- what holds of a reading where it succeeds
+
+-- P holds of the value and the place after it
+abbrev pub Every : {A : Type 0} → (A → ℕ → Type 0) → Field A → Type 0
+Every P (got a q) = P a q
+Every P (fault why) = Unit {0}
+
+-- one field and then the next
+pub every-then : {A B : Type 0} (P : A → ℕ → Type 0) (Q : B → ℕ → Type 0) (x : Field A) (f : A → ℕ → Field B)
+    → Every P x → ((a : A) (q : ℕ) → P a q → Every Q (f a q)) → Every Q (andThen x f)
+every-then P Q (got a q) f h k = k a q h
+every-then P Q (fault why) f h k = tt
+
+-- two such facts at once
+pub every-both : {A : Type 0} (P Q : A → ℕ → Type 0) (x : Field A) → Every P x → Every Q x → Every (λ a q. P a q × Q a q) x
+every-both P Q (got a q) h k = (h, k)
+every-both P Q (fault why) h k = tt
+
+-- what is known of every success, for this one
+pub of-got : {A : Type 0} (P : A → ℕ → Type 0) (x : Field A) (a : A) (q : ℕ) → Every P x → x ≡ got a q → P a q
+of-got P x a q h e = subst (Every P) e h
+
+-- ---- forward, and within
+
+-- at least k bytes on from p, and at most at n
+abbrev pub Ahead : {A : Type 0} → ℕ → ℕ → ℕ → Field A → Type 0
+Ahead k p n x = Every (λ a q. (p + k ≤ q) × (q ≤ n)) x
+
+-- one field and then the next: the bytes add up
+pub ahead-then : {A B : Type 0} (j k m p n : ℕ) → m ≤ j + k → (x : Field A) (f : A → ℕ → Field B)
+    → Ahead j p n x → ((a : A) (q : ℕ) → q ≤ n → Ahead k q n (f a q)) → Ahead m p n (andThen x f)
+ahead-then {B = B} j k m p n w (got a q) f (h, l) g = farther (f a q) (g a q l)
+  where
+    farther : (y : Field B) → Ahead k q n y → Ahead m p n y
+    farther (got b r) (i, o) = (omega arith, o)
+    farther (fault why) t = tt
+ahead-then j k m p n w (fault why) f h g = tt
+
+module _ (s : List ℕ) where
+  -- a byte
+  pub byte-ahead : (p : ℕ) → Ahead 1 p (length s) (byteAt s p)
+  byte-ahead p = go (ltb p (length s)) refl
+    where
+      go : (t : Bool) → ltb p (length s) ≡ t → Ahead 1 p (length s) (byteAt s p)
+      go true e = let h : p < length s = ltb-true p (length s) e in rw (byte-got s p h) (omega arith)
+      go false e = rw (byte-short s p (ltb-false p (length s) e)) tt
+
+  -- eight bytes
+  pub fixed-ahead : (p : ℕ) → Ahead 8 p (length s) (fixedAt s p)
+  fixed-ahead p = go (ltb (length s) (p + 8)) refl
+    where
+      go : (t : Bool) → ltb (length s) (p + 8) ≡ t → Ahead 8 p (length s) (fixedAt s p)
+      go true e = rw (fixed-short s p (ltb-true (length s) (p + 8) e)) tt
+      go false e = let h : p + 8 ≤ length s = ltb-false (length s) (p + 8) e in rw (fixed-got s p h) (omega arith)
+
+  -- a uvarint
+  pub uvarint-ahead : (p : ℕ) → Ahead 1 p (length s) (uvarintAt s p)
+  unfolding uvarintAt
+  uvarint-ahead p = go (readUvarint (drop p s)) refl
+    where
+      go : (r : UvarintRead) → readUvarint (drop p s) ≡ r → Ahead 1 p (length s) (uvarintOf p r)
+      go (u.Value n len) e = let t = taken (drop p s) n len e in omega (arith, length-drop p s)
+      go u.Short e = tt
+      go u.BadVarint e = tt
+
+  -- a varint
+  pub varint-ahead : (p : ℕ) → Ahead 1 p (length s) (varintAt s p)
+  unfolding varintAt
+  varint-ahead p = go (readVarint (drop p s)) refl
+    where
+      go : (r : VarintRead) → readVarint (drop p s) ≡ r → Ahead 1 p (length s) (varintOf p r)
+      go (v.Value x len) e = let t = taken-varint (drop p s) x len e .0 in omega (arith, length-drop p s)
+      go v.Short e = tt
+      go v.BadVarint e = tt
+
+  -- a string, at least the byte of its length
+  pub text-ahead : (p : ℕ) → Ahead 1 p (length s) (textAt s p)
+  unfolding textAt
+  text-ahead p = ahead-then 1 0 1 p (length s) (omega arith) (uvarintAt s p) _ (uvarint-ahead p) (λ n q l. inside n q l (ltb (length (drop q s)) n) refl)
+    where
+      inside : (n q : ℕ) → q ≤ length s → (t : Bool) → ltb (length (drop q s)) n ≡ t
+          → Ahead {A = Text} 0 q (length s) (cond t (fault (Short (offset p))) (got (record { start = q; bytes = take n (drop q s) }) (q + n)))
+      inside n q l true e = tt
+      inside n q l false e = let h : n ≤ length (drop q s) = ltb-false (length (drop q s)) n e in omega (arith, length-drop q s)
+
+  -- each of k strings has a byte at least
+  pub texts-ahead : (k p : ℕ) → p ≤ length s → Ahead k p (length s) (textsAt k s p)
+  unfolding textsAt
+  texts-ahead zero p h = omega arith
+  texts-ahead (suc k) p h =
+      ahead-then 1 k (suc k) p (length s) (omega arith) (textAt s p) _ (text-ahead p)
+      (λ t q l. ahead-then k 0 k q (length s) (omega arith) (textsAt k s q) _ (texts-ahead k q l) (λ ts r m. omega arith))
+
+  -- a list of strings, at least the byte of its count
+  pub list-ahead : (p : ℕ) → Ahead 1 p (length s) (textListAt s p)
+  unfolding textListAt
+  list-ahead p =
+      ahead-then 1 0 1 p (length s) (omega arith) (uvarintAt s p) _ (uvarint-ahead p)
+      (λ n q l. ahead-then (2 * n) 0 0 q (length s) (omega arith) (textsAt (2 * n) s q) _ (texts-ahead (2 * n) q l) (λ ts r m. omega arith))
+
+  -- a row has two deltas and eight bytes
+  pub row-ahead : (p : ℕ) → Ahead 10 p (length s) (rowAt s p)
+  unfolding rowAt
+  row-ahead p =
+      ahead-then 1 9 10 p (length s) (omega arith) (uvarintAt s p) _ (uvarint-ahead p)
+      (λ d q l. ahead-then 1 8 9 q (length s) (omega arith) (uvarintAt s q) _ (uvarint-ahead q)
+      (λ e r m. ahead-then 8 0 8 r (length s) (omega arith) (fixedAt s r) _ (fixed-ahead r) (λ v next i. omega arith)))
+
+  -- every entry has a byte at least
+  pub entry-ahead : (k : Kind) (p : ℕ) → Ahead 1 p (length s) (entryAt k s p)
+  unfolding seriesAt sampleAt tombstoneAt exemplarAt metadataAt
+  entry-ahead series p =
+      ahead-then 8 1 1 p (length s) (omega arith) (fixedAt s p) _ (fixed-ahead p)
+      (λ id q l. ahead-then 1 0 1 q (length s) (omega arith) (textListAt s q) _ (list-ahead q) (λ ts r m. omega arith))
+  entry-ahead samples p = ahead-then 10 0 1 p (length s) (omega arith) (rowAt s p) _ (row-ahead p) (λ w q l. omega arith)
+  entry-ahead tombstones p =
+      ahead-then 8 1 1 p (length s) (omega arith) (fixedAt s p) _ (fixed-ahead p)
+      (λ id q l. ahead-then 1 0 1 q (length s) (omega arith) (varintAt s q) _ (varint-ahead q)
+      (λ min r m. ahead-then 1 0 0 r (length s) (omega arith) (varintAt s r) _ (varint-ahead r) (λ max next i. omega arith)))
+  entry-ahead exemplars p =
+      ahead-then 10 1 1 p (length s) (omega arith) (rowAt s p) _ (row-ahead p)
+      (λ w q l. ahead-then 1 0 1 q (length s) (omega arith) (textListAt s q) _ (list-ahead q) (λ ts r m. omega arith))
+  entry-ahead metadata p =
+      ahead-then 1 1 1 p (length s) (omega arith) (uvarintAt s p) _ (uvarint-ahead p)
+      (λ id q l. ahead-then 1 0 1 q (length s) (omega arith) (byteAt s q) _ (byte-ahead q)
+      (λ metric r m. ahead-then 1 0 0 r (length s) (omega arith) (textListAt s r) _ (list-ahead r) (λ ts next i. omega arith)))

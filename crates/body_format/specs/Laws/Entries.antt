@@ -1,0 +1,110 @@
+-- Laws of entries: the bytes of an entry, standing at a place of a body, read back there as that entry.
+-- Assumes nothing.
+use mathlib.Core.Path.{_≡_, refl, _∙_}
+use mathlib.Core.Bool.{true}
+use mathlib.Core.List.{List, [], _∷_, _++_}
+use Prim.Native.Nat.{ℕ, _+_, _/_, _%_, _^_, _<_}
+use native.Mathlib.Omega.{arith}
+use lib.IntN.{ℤ}
+use lib.Signed.{mag}
+use lib.ListN.{length, drop, length-append}
+use Rattle.wal_types.specs.Deltas.{minus, toBits}
+use Rattle.wal_types.specs.DeltaLaws.{from-to, to-lt, plus-minus, minus-lt}
+use Rattle.varint.specs.Uvarint.{uvarint}
+use Rattle.varint.specs.Varint.{varint}
+use Rattle.varint.specs.Fixed.{be8, readBe8}
+use Rattle.body_format.specs.Fields.{got}
+use Rattle.body_format.specs.Entries.{hasRows, Entry, seriesEntry, sampleEntry, tombstoneEntry, exemplarEntry, metadataEntry, kindFor, rowAt, seriesAt, sampleAt, tombstoneAt, exemplarAt, metadataAt, entryAt}
+use Rattle.body_format.specs.Building.{textListBytes, deltaBytes, rowBytes, entryBytes}
+use Rattle.body_format.specs.Laws.Fields.{place-same, Stands, stands-left, stands-right, read-byte, read-fixed, read-uvarint-at, read-varint-at, read-list}
+use Rattle.body_format.specs.Laws.Strings.{row-later}
+
+-- an entry's numbers are of 64 bits, and its strings come in pairs
+abbrev pub Fits : Entry → Type 0
+Fits (seriesEntry id ts) = (id < 2 ^ 64) × (length ts % 2 ≡ 0)
+Fits (sampleEntry id time v) = (id < 2 ^ 64) × (mag time < 2 ^ 63) × (v < 2 ^ 64)
+Fits (tombstoneEntry id min max) = (id < 2 ^ 64) × (mag min < 2 ^ 63) × (mag max < 2 ^ 63)
+Fits (exemplarEntry id time v ts) = (id < 2 ^ 64) × (mag time < 2 ^ 63) × (v < 2 ^ 64) × (length ts % 2 ≡ 0)
+Fits (metadataEntry id metric ts) = (id < 2 ^ 64) × (length ts % 2 ≡ 0)
+
+-- a row behind `used` bytes is a later one: the body s has the first id and the first timestamp that buffer b holds, each of 64 bits
+pub record Firsts (b : List ℕ) (used : ℕ) (s : List ℕ) : Type 0 where
+  pub later : used ≡ 1 → ⊥
+  pub id : readBe8 (drop 1 s) ≡ readBe8 (drop 1 b)
+  pub time : readBe8 (drop 9 s) ≡ readBe8 (drop 9 b)
+  pub id-fits : readBe8 (drop 1 b) < 2 ^ 64
+  pub time-fits : readBe8 (drop 9 b) < 2 ^ 64
+
+module _ (b : List ℕ) (used : ℕ) (s : List ℕ) (p : ℕ) where
+  -- a row: adding its deltas modulo 2^64 gives the id and the time back
+  pub read-row : (id : ℕ) (time : ℤ) (v : ℕ) → id < 2 ^ 64 → mag time < 2 ^ 63 → v < 2 ^ 64 → Firsts b used s
+      → Stands s p (rowBytes b used id (toBits time) v)
+      → rowAt s p ≡ got (record { id = id; time = time; bits = v }) (p + length (rowBytes b used id (toBits time) v))
+  unfolding rowAt
+  read-row id time v hi ht hv f st =
+      let d : List ℕ = deltaBytes (minus id (readBe8 (drop 1 b))) in
+      let e : List ℕ = deltaBytes (minus (toBits time) (readBe8 (drop 9 b))) in
+      let here : Stands s p (d ++ (e ++ be8 v)) = rw (row-later b used id (toBits time) v (f .later)) at st in
+      let next : Stands s (p + length d) (e ++ be8 v) = stands-right s p d (e ++ be8 v) here in
+      rw (
+        row-later b used id (toBits time) v (f .later),
+        f .id,
+        f .time,
+        read-uvarint-at s p (minus id (readBe8 (drop 1 b))) (minus-lt id _) (stands-left s p d (e ++ be8 v) here),
+        read-uvarint-at s (p + length d) (minus (toBits time) (readBe8 (drop 9 b))) (minus-lt (toBits time) _) (stands-left s (p + length d) e (be8 v) next),
+        read-fixed s (p + length d + length e) v hv (stands-right s (p + length d) e (be8 v) next),
+        plus-minus id (readBe8 (drop 1 b)) hi (f .id-fits),
+        plus-minus (toBits time) (readBe8 (drop 9 b)) (to-lt time ht) (f .time-fits),
+        from-to time ht,
+      )
+      (place-same (omega (arith, length-append d (e ++ be8 v), length-append e (be8 v))))
+
+  -- an entry of any type, and some place where its strings begin
+  pub read-entry : (e : Entry) → Fits e → length (entryBytes b used e) < 2 ^ 64 → (hasRows (kindFor e) ≡ true → Firsts b used s)
+      → Stands s p (entryBytes b used e)
+      → (first : ℕ) × (entryAt (kindFor e) s p ≡ got (record { entry = e; first = first }) (p + length (entryBytes b used e)))
+  unfolding entryBytes seriesAt sampleAt tombstoneAt exemplarAt metadataAt
+  read-entry (seriesEntry id ts) (hi, even) h rows st =
+      let l : length (be8 id ++ textListBytes ts) ≡ length (be8 id) + length (textListBytes ts) = length-append (be8 id) (textListBytes ts) in (
+        p + length (be8 id) + length (uvarint (length ts / 2)),
+        rw (
+          read-fixed s p id hi (stands-left s p (be8 id) (textListBytes ts) st),
+          read-list s (p + length (be8 id)) ts (omega arith) even (stands-right s p (be8 id) (textListBytes ts) st),
+        )
+            (place-same (omega arith)),
+      )
+  read-entry (sampleEntry id time v) (hi, ht, hv) h rows st =
+      (p + length (rowBytes b used id (toBits time) v), rw (read-row id time v hi ht hv (rows refl) st))
+  read-entry (tombstoneEntry id min max) (hi, hl, hm) h rows st =
+      let next : Stands s (p + length (be8 id)) (varint min ++ varint max) = stands-right s p (be8 id) (varint min ++ varint max) st in (
+        p + length (be8 id) + length (varint min) + length (varint max),
+        rw (
+          read-fixed s p id hi (stands-left s p (be8 id) (varint min ++ varint max) st),
+          read-varint-at s (p + length (be8 id)) min hl (stands-left s (p + length (be8 id)) (varint min) (varint max) next),
+          read-varint-at s (p + length (be8 id) + length (varint min)) max hm (stands-right s (p + length (be8 id)) (varint min) (varint max) next),
+        )
+            (place-same (omega (arith, length-append (be8 id) (varint min ++ varint max), length-append (varint min) (varint max)))),
+      )
+  read-entry (exemplarEntry id time v ts) (hi, ht, hv, even) h rows st =
+      let row : List ℕ = rowBytes b used id (toBits time) v in
+      let l : length (row ++ textListBytes ts) ≡ length row + length (textListBytes ts) = length-append row (textListBytes ts) in (
+        p + length row + length (uvarint (length ts / 2)),
+        rw (
+          read-row id time v hi ht hv (rows refl) (stands-left s p row (textListBytes ts) st),
+          read-list s (p + length row) ts (omega arith) even (stands-right s p row (textListBytes ts) st),
+        )
+            (place-same (omega arith)),
+      )
+  read-entry (metadataEntry id metric ts) (hi, even) h rows st =
+      let next : Stands s (p + length (uvarint id)) (metric ∷ textListBytes ts) = stands-right s p (uvarint id) (metric ∷ textListBytes ts) st in
+      let l : length (uvarint id ++ (metric ∷ textListBytes ts)) ≡ length (uvarint id) + (1 + length (textListBytes ts)) =
+      length-append (uvarint id) (metric ∷ textListBytes ts) ∙ omega arith in (
+        p + length (uvarint id) + 1 + length (uvarint (length ts / 2)),
+        rw (
+          read-uvarint-at s p id hi (stands-left s p (uvarint id) (metric ∷ textListBytes ts) st),
+          read-byte s (p + length (uvarint id)) metric (stands-left s (p + length (uvarint id)) (metric ∷ []) (textListBytes ts) next),
+          read-list s (p + length (uvarint id) + 1) ts (omega arith) even
+              (stands-right s (p + length (uvarint id)) (metric ∷ []) (textListBytes ts) next),
+        )
+            (place-same (omega arith)),
+      )

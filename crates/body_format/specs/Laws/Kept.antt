@@ -1,0 +1,150 @@
+-- Laws of more bytes: those that follow a body do not change a reading that succeeded in it.
+-- Assumes nothing.
+use mathlib.Core.Path.{_≡_, refl, ap, _∙_}
+use mathlib.Core.Bool.{Bool, true, false, cond}
+use mathlib.Core.List.{List, _++_}
+use Prim.Native.Nat.{ℕ, zero, suc, _+_, _*_, _≤_, _<_}
+use native.Mathlib.Omega.{arith}
+use borrow.Author.Tests.{le-ltb, ltb-true, ltb-false}
+use lib.ListN.{length, take, drop, length-append, length-drop, List·getD-append}
+use lib.Seq.{drop-append-le, take-append-le}
+use lib.Dec.{ltb}
+use Rattle.wal_types.specs.declared.Refusal.the-variants.{Short}
+use Rattle.wal_types.specs.Terms.{offset}
+use Rattle.varint.specs.declared.UvarintRead.{UvarintRead}
+use Rattle.varint.specs.declared.UvarintRead.the-variants as u
+use Rattle.varint.specs.declared.VarintRead.{VarintRead}
+use Rattle.varint.specs.declared.VarintRead.the-variants as v
+use Rattle.varint.specs.Uvarint.{readUvarint}
+use Rattle.varint.specs.UvarintLaws.{taken, append-value}
+use Rattle.varint.specs.Varint.{readVarint}
+use Rattle.varint.specs.VarintLaws.{taken-varint, append-value-varint}
+use Rattle.varint.specs.Fixed.{readBe8}
+use Rattle.varint.specs.FixedLaws.{append-be8}
+use Rattle.body_format.specs.Fields.{Field, got, fault, andThen, byteAt, fixedAt, uvarintOf, uvarintAt, varintOf, varintAt, Text, textAt, textsAt, textListAt}
+use Rattle.body_format.specs.Entries.{Kind, series, samples, tombstones, exemplars, metadata, hasRows, rowAt, seriesAt, sampleAt, tombstoneAt, exemplarAt, metadataAt, entryAt}
+use Rattle.body_format.specs.Laws.Fields.{byte-got, byte-short, fixed-got, fixed-short}
+use Rattle.body_format.specs.Laws.Bounds.{Every, uvarint-ahead}
+
+-- where x succeeds, y does with the same value and place
+abbrev pub Kept : {A : Type 0} → Field A → Field A → Type 0
+Kept x y = Every (λ a q. y ≡ got a q) x
+
+-- one field and then the next
+pub kept-then : {A B : Type 0} (x y : Field A) (f g : A → ℕ → Field B)
+    → Kept x y → ((a : A) (q : ℕ) → Kept (f a q) (g a q)) → Kept (andThen x f) (andThen y g)
+kept-then (got a q) y f g e k = rw e (k a q)
+kept-then (fault why) y f g e k = tt
+
+-- the same, where the places after x are known to be within n
+kept-within : {A B : Type 0} (p n : ℕ) (x y : Field A) (f g : A → ℕ → Field B)
+    → Every (λ a q. (p + 1 ≤ q) × (q ≤ n)) x → Kept x y → ((a : A) (q : ℕ) → q ≤ n → Kept (f a q) (g a q)) → Kept (andThen x f) (andThen y g)
+kept-within p n (got a q) y f g h e k = rw e (k a q (h .1))
+kept-within p n (fault why) y f g h e k = tt
+
+-- the first bytes from a place within s on
+pub be8-kept : (s t : List ℕ) (p : ℕ) → p + 8 ≤ length s → readBe8 (drop p (s ++ t)) ≡ readBe8 (drop p s)
+be8-kept s t p h = ap readBe8 (drop-append-le p s t (omega arith)) ∙ append-be8 (drop p s) t (omega (arith, length-drop p s))
+
+module _ (s t : List ℕ) where
+  -- a byte
+  pub byte-kept : (p : ℕ) → Kept (byteAt s p) (byteAt (s ++ t) p)
+  byte-kept p = go (ltb p (length s)) refl
+    where
+      go : (b : Bool) → ltb p (length s) ≡ b → Kept (byteAt s p) (byteAt (s ++ t) p)
+      go true e =
+          let h : p < length s = ltb-true p (length s) e in
+          rw (byte-got s p h)
+          (byte-got (s ++ t) p (omega (arith, length-append s t)) ∙ ap (λ (b : ℕ). got b (p + 1)) (List·getD-append s t 0 p h))
+      go false e = rw (byte-short s p (ltb-false p (length s) e)) tt
+
+  -- eight bytes
+  pub fixed-kept : (p : ℕ) → Kept (fixedAt s p) (fixedAt (s ++ t) p)
+  fixed-kept p = go (ltb (length s) (p + 8)) refl
+    where
+      go : (b : Bool) → ltb (length s) (p + 8) ≡ b → Kept (fixedAt s p) (fixedAt (s ++ t) p)
+      go true e = rw (fixed-short s p (ltb-true (length s) (p + 8) e)) tt
+      go false e =
+          let h : p + 8 ≤ length s = ltb-false (length s) (p + 8) e in
+          rw (fixed-got s p h)
+          (fixed-got (s ++ t) p (omega (arith, length-append s t)) ∙ ap (λ (x : ℕ). got x (p + 8)) (be8-kept s t p h))
+
+  -- a uvarint
+  pub uvarint-kept : (p : ℕ) → Kept (uvarintAt s p) (uvarintAt (s ++ t) p)
+  unfolding uvarintAt
+  uvarint-kept p = go (readUvarint (drop p s)) refl
+    where
+      go : (r : UvarintRead) → readUvarint (drop p s) ≡ r → Kept (uvarintOf p r) (uvarintOf p (readUvarint (drop p (s ++ t))))
+      go (u.Value n len) e =
+          let k = taken (drop p s) n len e in
+          rw (drop-append-le p s t (omega (arith, length-drop p s)), append-value (drop p s) t n len e)
+      go u.Short e = tt
+      go u.BadVarint e = tt
+
+  -- a varint
+  pub varint-kept : (p : ℕ) → Kept (varintAt s p) (varintAt (s ++ t) p)
+  unfolding varintAt
+  varint-kept p = go (readVarint (drop p s)) refl
+    where
+      go : (r : VarintRead) → readVarint (drop p s) ≡ r → Kept (varintOf p r) (varintOf p (readVarint (drop p (s ++ t))))
+      go (v.Value x len) e =
+          let k = taken-varint (drop p s) x len e .0 in
+          rw (drop-append-le p s t (omega (arith, length-drop p s)), append-value-varint (drop p s) t x len e)
+      go v.Short e = tt
+      go v.BadVarint e = tt
+
+  -- a string
+  pub text-kept : (p : ℕ) → Kept (textAt s p) (textAt (s ++ t) p)
+  unfolding textAt
+  text-kept p = kept-within p (length s) (uvarintAt s p) (uvarintAt (s ++ t) p) _ _ (uvarint-ahead s p) (uvarint-kept p) (λ n q l. inside n q l (ltb (length (drop q s)) n) refl)
+    where
+      inside : (n q : ℕ) → q ≤ length s → (b : Bool) → ltb (length (drop q s)) n ≡ b
+          → Kept {A = Text} (cond b (fault (Short (offset p))) (got (record { start = q; bytes = take n (drop q s) }) (q + n)))
+          (cond (ltb (length (drop q (s ++ t))) n) (fault (Short (offset p))) (got (record { start = q; bytes = take n (drop q (s ++ t)) }) (q + n)))
+      inside n q l true e = tt
+      inside n q l false e =
+          let h : n ≤ length (drop q s) = ltb-false (length (drop q s)) n e in
+          rw (drop-append-le q s t l, le-ltb (length (drop q s ++ t)) n (omega (arith, length-append (drop q s) t)), take-append-le n (drop q s) t h)
+
+  -- strings in a row
+  pub texts-kept : (k p : ℕ) → Kept (textsAt k s p) (textsAt k (s ++ t) p)
+  unfolding textsAt
+  texts-kept zero p = refl
+  texts-kept (suc k) p =
+      kept-then (textAt s p) (textAt (s ++ t) p) _ _ (text-kept p)
+      (λ x q. kept-then (textsAt k s q) (textsAt k (s ++ t) q) _ _ (texts-kept k q) (λ xs r. refl))
+
+  -- a list of strings
+  pub list-kept : (p : ℕ) → Kept (textListAt s p) (textListAt (s ++ t) p)
+  unfolding textListAt
+  list-kept p =
+      kept-then (uvarintAt s p) (uvarintAt (s ++ t) p) _ _ (uvarint-kept p)
+      (λ n q. kept-then (textsAt (2 * n) s q) (textsAt (2 * n) (s ++ t) q) _ _ (texts-kept (2 * n) q) (λ xs r. refl))
+
+  -- a row, in a body that has its first id and first timestamp
+  pub row-kept : (p : ℕ) → 17 ≤ length s → Kept (rowAt s p) (rowAt (s ++ t) p)
+  unfolding rowAt
+  row-kept p h =
+      rw (be8-kept s t 1 (omega arith), be8-kept s t 9 (omega arith))
+      (kept-then (uvarintAt s p) (uvarintAt (s ++ t) p) _ _ (uvarint-kept p)
+      (λ d q. kept-then (uvarintAt s q) (uvarintAt (s ++ t) q) _ _ (uvarint-kept q)
+      (λ e r. kept-then (fixedAt s r) (fixedAt (s ++ t) r) _ _ (fixed-kept r) (λ w next. refl))))
+
+  -- an entry of any type
+  pub entry-kept : (k : Kind) (p : ℕ) → (hasRows k ≡ true → 17 ≤ length s) → Kept (entryAt k s p) (entryAt k (s ++ t) p)
+  unfolding seriesAt sampleAt tombstoneAt exemplarAt metadataAt
+  entry-kept series p h =
+      kept-then (fixedAt s p) (fixedAt (s ++ t) p) _ _ (fixed-kept p)
+      (λ id q. kept-then (textListAt s q) (textListAt (s ++ t) q) _ _ (list-kept q) (λ l r. refl))
+  entry-kept samples p h = kept-then (rowAt s p) (rowAt (s ++ t) p) _ _ (row-kept p (h refl)) (λ w r. refl)
+  entry-kept tombstones p h =
+      kept-then (fixedAt s p) (fixedAt (s ++ t) p) _ _ (fixed-kept p)
+      (λ id q. kept-then (varintAt s q) (varintAt (s ++ t) q) _ _ (varint-kept q)
+      (λ min r. kept-then (varintAt s r) (varintAt (s ++ t) r) _ _ (varint-kept r) (λ max next. refl)))
+  entry-kept exemplars p h =
+      kept-then (rowAt s p) (rowAt (s ++ t) p) _ _ (row-kept p (h refl))
+      (λ w q. kept-then (textListAt s q) (textListAt (s ++ t) q) _ _ (list-kept q) (λ l r. refl))
+  entry-kept metadata p h =
+      kept-then (uvarintAt s p) (uvarintAt (s ++ t) p) _ _ (uvarint-kept p)
+      (λ id q. kept-then (byteAt s q) (byteAt (s ++ t) q) _ _ (byte-kept q)
+      (λ metric r. kept-then (textListAt s r) (textListAt (s ++ t) r) _ _ (list-kept r) (λ l next. refl)))

@@ -1,0 +1,158 @@
+-- Laws of strings as they are lent, and of how many bytes an entry takes.
+-- Assumes nothing.
+use mathlib.Core.Path.{_≡_, refl, ap, _∙_}
+use mathlib.Core.Bool.{Bool, true, false, _||_, not}
+use mathlib.Core.List.{List, [], _∷_, _++_}
+use Prim.Native.Nat.{ℕ, suc, _+_, _%_, _≤_, _<_}
+use native.Mathlib.Numerals.{add-one}
+use native.Mathlib.Omega.{arith}
+use borrow.Author.Tests.{eq-eqb, ne-eqb, eqb-false}
+use lib.IntN.{ℤ}
+use lib.ListN.{length, getD, take, drop, length-append}
+use lib.Seq.{drop-cons, drop-drop, length-take-le}
+use lib.Dec.{eqb}
+use Rattle.wal_types.specs.Deltas.{minus, toBits}
+use Rattle.varint.specs.Uvarint.{uvarint}
+use Rattle.varint.specs.UvarintLaws.{length-one}
+use Rattle.varint.specs.Varint.{varint}
+use Rattle.varint.specs.Fixed.{be8, readBe8}
+use Rattle.varint.specs.FixedLaws.{length-be8}
+use Rattle.body_format.specs.Entries.{seriesEntry, sampleEntry, tombstoneEntry, exemplarEntry, metadataEntry}
+use Rattle.body_format.specs.Building.{textsBytes, textListBytes, deltaBytes, rowBytes, entryBytes, cutTexts, total, badList}
+use Rattle.body_format.specs.Laws.Fields.{length-texts}
+
+-- ---- one slice of bytes, and one of lengths
+
+-- as many strings as lengths
+pub length-cut : (bytes lengths : List ℕ) → length (cutTexts bytes lengths) ≡ length lengths
+unfolding cutTexts
+length-cut bytes [] = refl
+length-cut bytes (n ∷ lengths) = ap suc (length-cut (drop n bytes) lengths)
+
+-- string i, whose bytes start at `at`, and those after it
+pub cut-step : (bytes lengths : List ℕ) (at i : ℕ) → i < length lengths
+    → cutTexts (drop at bytes) (drop i lengths)
+    ≡ take (getD lengths i 0) (drop at bytes) ∷ cutTexts (drop (at + getD lengths i 0) bytes) (drop (i + 1) lengths)
+unfolding cutTexts
+cut-step bytes lengths at i h = rw (add-one i, drop-cons lengths i 0 h, drop-drop (getD lengths i 0) at bytes)
+
+-- the sum from length i on
+pub total-step : (lengths : List ℕ) (i : ℕ) → i < length lengths → total (drop i lengths) ≡ getD lengths i 0 + total (drop (i + 1) lengths)
+unfolding total
+total-step lengths i h = rw (add-one i, drop-cons lengths i 0 h)
+
+-- the sum of a length and those after it
+pub total-first : (n : ℕ) (lengths : List ℕ) → total (n ∷ lengths) ≡ n + total lengths
+unfolding total
+total-first n lengths = refl
+
+-- where the slice has the first string, the bytes of its length, its own, and those of the strings after it
+pub length-cut-texts : (bytes lengths : List ℕ) (n : ℕ) → n ≤ length bytes
+    → length (textsBytes (cutTexts bytes (n ∷ lengths))) ≡ length (uvarint n) + n + length (textsBytes (cutTexts (drop n bytes) lengths))
+unfolding cutTexts
+length-cut-texts bytes lengths n h =
+    length-texts (take n bytes) (cutTexts (drop n bytes) lengths)
+    ∙ ap (λ (m : ℕ). length (uvarint m) + m + length (textsBytes (cutTexts (drop n bytes) lengths))) (length-take-le n bytes h)
+
+-- BadList: an odd number of strings
+pub odd-list : (bytes lengths : List ℕ) → length lengths % 2 ≡ 1 → badList bytes lengths ≡ true
+unfolding badList
+odd-list bytes lengths h = rw (eq-eqb (length lengths % 2) 1 h)
+
+-- lengths that do not add up
+pub unequal-list : (bytes lengths : List ℕ) → (total lengths ≡ length bytes → ⊥) → badList bytes lengths ≡ true
+unfolding badList
+unequal-list bytes lengths h = go (eqb (length lengths % 2) 1)
+  where
+    go : (t : Bool) → t || not (eqb (total lengths) (length bytes)) ≡ true
+    go true = refl
+    go false = rw (ne-eqb (total lengths) (length bytes) h)
+
+-- neither
+pub good-list : (bytes lengths : List ℕ) → length lengths % 2 ≡ 0 → total lengths ≡ length bytes → badList bytes lengths ≡ false
+unfolding badList
+good-list bytes lengths h e =
+    rw (ne-eqb (length lengths % 2) 1 (omega arith), eq-eqb (total lengths) (length bytes) e)
+
+-- a list that is not bad has an even number of strings
+pub even-list : (bytes lengths : List ℕ) → badList bytes lengths ≡ false → length (cutTexts bytes lengths) % 2 ≡ 0
+unfolding badList
+even-list bytes lengths h = go (eqb (length lengths % 2) 1) refl h
+  where
+    go : (t : Bool) → eqb (length lengths % 2) 1 ≡ t → t || not (eqb (total lengths) (length bytes)) ≡ false
+        → length (cutTexts bytes lengths) % 2 ≡ 0
+    go true e k = let z : _≡_ {A = ℕ} 0 1 = cc in absurd (omega arith)
+    go false e k = let ne : length lengths % 2 ≡ 1 → ⊥ = eqb-false (length lengths % 2) 1 e in rw (length-cut bytes lengths) (omega arith)
+
+-- ---- how many bytes an entry takes
+
+module _ (b : List ℕ) (used : ℕ) where
+  -- the first row of a body, and a later one
+  pub row-first : (id time v : ℕ) → used ≡ 1
+      → rowBytes b used id time v ≡ be8 id ++ (be8 time ++ (deltaBytes 0 ++ (deltaBytes 0 ++ be8 v)))
+  unfolding rowBytes
+  row-first id time v h = rw (eq-eqb used 1 h)
+
+  -- a later one: its deltas, and its value
+  pub row-later : (id time v : ℕ) → (used ≡ 1 → ⊥)
+      → rowBytes b used id time v
+      ≡ deltaBytes (minus id (readBe8 (drop 1 b))) ++ (deltaBytes (minus time (readBe8 (drop 9 b))) ++ be8 v)
+  unfolding rowBytes
+  row-later id time v h = rw (ne-eqb used 1 h)
+
+  -- 26 bytes
+  pub length-row-first : (id time v : ℕ) → used ≡ 1 → length (rowBytes b used id time v) ≡ 26
+  length-row-first id time v h =
+      rw (row-first id time v h)
+      (omega (
+        arith,
+        length-append (be8 id) (be8 time ++ (deltaBytes 0 ++ (deltaBytes 0 ++ be8 v))),
+        length-append (be8 time) (deltaBytes 0 ++ (deltaBytes 0 ++ be8 v)),
+        length-append (deltaBytes 0) (deltaBytes 0 ++ be8 v),
+        length-append (deltaBytes 0) (be8 v),
+        length-one 0 (omega arith),
+        length-be8 id,
+        length-be8 time,
+        length-be8 v,
+      ))
+
+  -- two deltas and 8 bytes
+  pub length-row-later : (id time v : ℕ) → (used ≡ 1 → ⊥)
+      → length (rowBytes b used id time v)
+      ≡ length (uvarint (minus id (readBe8 (drop 1 b)))) + length (uvarint (minus time (readBe8 (drop 9 b)))) + 8
+  length-row-later id time v h =
+      rw (row-later id time v h)
+      (omega (
+        arith,
+        length-append (deltaBytes (minus id (readBe8 (drop 1 b)))) (deltaBytes (minus time (readBe8 (drop 9 b))) ++ be8 v),
+        length-append (deltaBytes (minus time (readBe8 (drop 9 b)))) (be8 v),
+        length-be8 v,
+      ))
+
+  -- an id and a list of strings
+  pub length-series : (id : ℕ) (ts : List (List ℕ)) → length (entryBytes b used (seriesEntry id ts)) ≡ 8 + length (textListBytes ts)
+  unfolding entryBytes
+  length-series id ts = omega (arith, length-append (be8 id) (textListBytes ts), length-be8 id)
+
+  -- a row
+  pub length-sample : (id : ℕ) (time : ℤ) (v : ℕ) → length (entryBytes b used (sampleEntry id time v)) ≡ length (rowBytes b used id (toBits time) v)
+  unfolding entryBytes
+  length-sample id time v = refl
+
+  -- an id and two times
+  pub length-tombstone : (id : ℕ) (min max : ℤ) → length (entryBytes b used (tombstoneEntry id min max)) ≡ 8 + length (varint min) + length (varint max)
+  unfolding entryBytes
+  length-tombstone id min max =
+      omega (arith, length-append (be8 id) (varint min ++ varint max), length-append (varint min) (varint max), length-be8 id)
+
+  -- a row and a list of strings
+  pub length-exemplar : (id : ℕ) (time : ℤ) (v : ℕ) (ts : List (List ℕ))
+      → length (entryBytes b used (exemplarEntry id time v ts)) ≡ length (rowBytes b used id (toBits time) v) + length (textListBytes ts)
+  unfolding entryBytes
+  length-exemplar id time v ts = length-append (rowBytes b used id (toBits time) v) (textListBytes ts)
+
+  -- an id, a byte and a list of strings
+  pub length-metadata : (id metric : ℕ) (ts : List (List ℕ))
+      → length (entryBytes b used (metadataEntry id metric ts)) ≡ length (uvarint id) + 1 + length (textListBytes ts)
+  unfolding entryBytes
+  length-metadata id metric ts = omega (arith, length-append (uvarint id) (metric ∷ textListBytes ts))

@@ -1,0 +1,168 @@
+-- Laws of walks: reading an entry at each place in turn walks the list of entries that the definition reads, and each entry's strings.
+-- Assumes nothing.
+use mathlib.Core.Path.{_≡_, refl, ap, _∙_, subst}
+use mathlib.Core.Bool.{Bool, true, false, cond, _&&_}
+use mathlib.Core.List.{List, _∷_}
+use Prim.Native.Nat.{ℕ, zero, suc, _+_, _*_, _≤_, _<_}
+use native.Mathlib.Omega.{arith}
+use borrow.Author.Tests.{le-ltb, ltb-false, le-leb, lt-leb, eq-eqb, ne-eqb, eqb-true, eqb-false}
+use lib.ListN.{length, take, drop}
+use lib.Seq.{length-take-le}
+use lib.Dec.{ltb, leb, eqb}
+use Rattle.wal_types.specs.declared.Refusal.the-variants.{Short, BadPlace}
+use Rattle.wal_types.specs.Terms.{offset}
+use Rattle.body_format.specs.declared.EntryAnswer.the-variants.{End, Refused as EntryRefused}
+use Rattle.body_format.specs.declared.StringAnswer.the-variants.{Found as StringFound}
+use Rattle.body_format.specs.Fields.{Field, got, fault, andThen, byteAt, fixedAt, uvarintAt, varintAt, Text, textAt, textsAt, textListAt}
+use Rattle.body_format.specs.Entries.{Kind, series, samples, tombstones, exemplars, metadata, known, kindOf, hasRows, Entry, rowAt, seriesAt, sampleAt, tombstoneAt, exemplarAt, metadataAt, entryAt, entriesFrom, firstAt, entries}
+use Rattle.body_format.specs.Reading.{answerEntry, entryOrEnd, firstEntry, badPlace, readEntry, answerString, readString}
+use Rattle.body_format.specs.Calls.{Strings, stringsOf, Walks}
+use Rattle.body_format.specs.Calls.Walks.{next, done}
+use Rattle.body_format.specs.Laws.Bounds.{Every, every-then, every-both, of-got, byte-ahead, fixed-ahead, uvarint-ahead, varint-ahead, text-ahead, row-ahead, entry-ahead}
+use Rattle.body_format.specs.Laws.Lists.{entries-end, entries-suc, first-bounds}
+
+-- where a reading succeeds, it is that
+every-self : {A : Type 0} (x : Field A) → Every (λ a q. x ≡ got a q) x
+every-self (got a q) = refl
+every-self (fault why) = tt
+
+-- the bytes of a string stand where it starts, and it ends behind them
+text-bytes : (s : List ℕ) (p : ℕ) → Every (λ t q. (take (length (t .bytes)) (drop (t .start) s) ≡ t .bytes) × (q ≡ t .start + length (t .bytes))) (textAt s p)
+unfolding textAt
+text-bytes s p = every-then (λ n q. (p + 1 ≤ q) × (q ≤ length s)) _ (uvarintAt s p) _ (uvarint-ahead s p) (λ n q l. go n q (ltb (length (drop q s)) n) refl)
+  where
+    go : (n q : ℕ) (b : Bool) → ltb (length (drop q s)) n ≡ b
+        → Every {A = Text} (λ t r. (take (length (t .bytes)) (drop (t .start) s) ≡ t .bytes) × (r ≡ t .start + length (t .bytes)))
+        (cond b (fault (Short (offset p))) (got (record { start = q; bytes = take n (drop q s) }) (q + n)))
+    go n q true e = tt
+    go n q false e =
+        let l : length (take n (drop q s)) ≡ n = length-take-le n (drop q s) (ltb-false (length (drop q s)) n e) in
+        rw l (refl, refl)
+
+module _ (b : ℕ) (s : List ℕ) (k : Kind) (type : kindOf b ≡ known k) where
+  -- ---- strings
+
+  -- at a place within the body
+  pub string-at : (p : ℕ) → 1 ≤ p → p ≤ length (b ∷ s) → readString (b ∷ s) p ≡ answerString (textAt (b ∷ s) p)
+  unfolding readString
+  string-at p h l = rw (type, ne-eqb p 0 (omega arith), le-ltb (length (b ∷ s)) p l)
+
+  -- one string is read with its start and length
+  string-told : (p : ℕ) → 1 ≤ p
+      → Every (λ t q. (readString (b ∷ s) p ≡ StringFound (offset (t .start)) (length (t .bytes)))
+      × (take (length (t .bytes)) (drop (t .start) (b ∷ s)) ≡ t .bytes) × (q ≡ t .start + length (t .bytes)) × (p + 1 ≤ q)) (textAt (b ∷ s) p)
+  string-told p h =
+      told (textAt (b ∷ s) p) (text-ahead (b ∷ s) p) (text-bytes (b ∷ s) p) refl
+    where
+      told : (x : Field Text) → Every (λ t q. (p + 1 ≤ q) × (q ≤ length (b ∷ s))) x
+          → Every (λ t q. (take (length (t .bytes)) (drop (t .start) (b ∷ s)) ≡ t .bytes) × (q ≡ t .start + length (t .bytes))) x
+          → textAt (b ∷ s) p ≡ x
+          → Every (λ t q. (readString (b ∷ s) p ≡ StringFound (offset (t .start)) (length (t .bytes)))
+          × (take (length (t .bytes)) (drop (t .start) (b ∷ s)) ≡ t .bytes) × (q ≡ t .start + length (t .bytes)) × (p + 1 ≤ q)) x
+      told (got t q) (l, m) (i, j) e = (string-at p h (omega arith) ∙ ap answerString e, i, j, l)
+      told (fault why) l i e = tt
+
+  texts-walk : (n p : ℕ) → 1 ≤ p → Every (λ ts r. Strings readString (b ∷ s) p ts) (textsAt n (b ∷ s) p)
+  unfolding textsAt
+  texts-walk zero p h = tt
+  texts-walk (suc n) p h =
+      every-then _ _ (textAt (b ∷ s) p) _ (string-told p h)
+      (λ t q l. every-then (λ ts r. Strings readString (b ∷ s) q ts) _ (textsAt n (b ∷ s) q) _ (texts-walk n q (omega arith))
+      (λ ts r w. (t .start, l .0, l .1, subst (λ (at : ℕ). Strings readString (b ∷ s) at ts) (l .2) w)))
+
+  list-walk : (p : ℕ) → Every (λ l r. Strings readString (b ∷ s) (l .first) (l .strings)) (textListAt (b ∷ s) p)
+  unfolding textListAt
+  list-walk p =
+      every-then (λ n q. (p + 1 ≤ q) × (q ≤ length (b ∷ s))) _ (uvarintAt (b ∷ s) p) _ (uvarint-ahead (b ∷ s) p)
+      (λ n q l. every-then (λ ts r. Strings readString (b ∷ s) q ts) _ (textsAt (2 * n) (b ∷ s) q) _ (texts-walk (2 * n) q (omega arith)) (λ ts r w. w))
+
+  -- the strings of an entry, from the place where they begin
+  strings-walk : (j : Kind) (p : ℕ) → Every (λ e q. Strings readString (b ∷ s) (e .first) (stringsOf (e .entry))) (entryAt j (b ∷ s) p)
+  unfolding seriesAt sampleAt tombstoneAt exemplarAt metadataAt
+  strings-walk series p =
+      every-then _ _ (fixedAt (b ∷ s) p) _ (fixed-ahead (b ∷ s) p)
+      (λ id q h. every-then _ _ (textListAt (b ∷ s) q) _ (list-walk q) (λ l r w. w))
+  strings-walk samples p = every-then _ _ (rowAt (b ∷ s) p) _ (row-ahead (b ∷ s) p) (λ w q h. tt)
+  strings-walk tombstones p =
+      every-then _ _ (fixedAt (b ∷ s) p) _ (fixed-ahead (b ∷ s) p)
+      (λ id q h. every-then _ _ (varintAt (b ∷ s) q) _ (varint-ahead (b ∷ s) q)
+      (λ min r i. every-then _ _ (varintAt (b ∷ s) r) _ (varint-ahead (b ∷ s) r) (λ max z j. tt)))
+  strings-walk exemplars p =
+      every-then _ _ (rowAt (b ∷ s) p) _ (row-ahead (b ∷ s) p)
+      (λ w q h. every-then _ _ (textListAt (b ∷ s) q) _ (list-walk q) (λ l r z. z))
+  strings-walk metadata p =
+      every-then _ _ (uvarintAt (b ∷ s) p) _ (uvarint-ahead (b ∷ s) p)
+      (λ id q h. every-then _ _ (byteAt (b ∷ s) q) _ (byte-ahead (b ∷ s) q)
+      (λ metric r i. every-then _ _ (textListAt (b ∷ s) r) _ (list-walk r) (λ l z w. w)))
+
+  -- ---- entries
+
+  -- at place 1: where the entries begin
+  pub entry-first : readEntry (b ∷ s) 1 ≡ firstEntry k (b ∷ s) (firstAt (hasRows k) (b ∷ s))
+  unfolding readEntry badPlace
+  entry-first = rw (type, le-ltb (length (b ∷ s)) 1 (omega arith)) (go (hasRows k))
+    where
+      go : (rows : Bool) → cond (rows && false) (EntryRefused BadPlace) (firstEntry k (b ∷ s) (firstAt (hasRows k) (b ∷ s))) ≡ firstEntry k (b ∷ s) (firstAt (hasRows k) (b ∷ s))
+      go true = refl
+      go false = refl
+
+  -- at a later one: there
+  pub entry-later : (p : ℕ) → 2 ≤ p → p ≤ length (b ∷ s) → (hasRows k ≡ true → 17 ≤ p) → readEntry (b ∷ s) p ≡ entryOrEnd k (b ∷ s) p
+  unfolding readEntry badPlace
+  entry-later p h l r =
+      rw (type, ne-eqb p 0 (omega arith), le-ltb (length (b ∷ s)) p l, ne-eqb p 1 (omega arith)) (go (hasRows k) r)
+    where
+      go : (rows : Bool) → (rows ≡ true → 17 ≤ p)
+          → cond (rows && (leb 2 p && leb p 16)) (EntryRefused BadPlace) (entryOrEnd k (b ∷ s) p) ≡ entryOrEnd k (b ∷ s) p
+      go true q = rw (le-leb 2 p h, lt-leb p 16 (q refl))
+      go false q = refl
+
+  -- the plain end
+  pub at-end : (p : ℕ) → p ≡ length (b ∷ s) → entryOrEnd k (b ∷ s) p ≡ End
+  unfolding entryOrEnd
+  at-end p h = rw (eq-eqb p (length (b ∷ s)) h)
+
+  -- before it an entry or a fault
+  pub before-end : (p : ℕ) → p < length (b ∷ s) → entryOrEnd k (b ∷ s) p ≡ answerEntry (entryAt k (b ∷ s) p)
+  unfolding entryOrEnd
+  before-end p h = rw (ne-eqb p (length (b ∷ s)) (omega arith))
+
+  -- from place p, at which is read what stands at `from`
+  walk : (n p from : ℕ) → readEntry (b ∷ s) p ≡ entryOrEnd k (b ∷ s) from → 1 ≤ from → from ≤ length (b ∷ s) → length (b ∷ s) ≤ n + from
+      → (hasRows k ≡ true → from < length (b ∷ s) → 17 ≤ from)
+      → Every (λ es r. Walks readEntry readString (b ∷ s) p es) (entriesFrom n k (b ∷ s) from)
+  walk zero p from e h l enough r = rw (entries-end k (b ∷ s) zero from (omega arith)) (done (e ∙ at-end from (omega arith)))
+  walk (suc n) p from e h l enough r = go (eqb from (length (b ∷ s))) refl (walk n)
+    where
+      go : (t : Bool) → eqb from (length (b ∷ s)) ≡ t
+          → ((p q : ℕ) → readEntry (b ∷ s) p ≡ entryOrEnd k (b ∷ s) q → 1 ≤ q → q ≤ length (b ∷ s) → length (b ∷ s) ≤ n + q
+          → (hasRows k ≡ true → q < length (b ∷ s) → 17 ≤ q)
+          → Every (λ es r. Walks readEntry readString (b ∷ s) p es) (entriesFrom n k (b ∷ s) q))
+          → Every (λ es r. Walks readEntry readString (b ∷ s) p es) (entriesFrom (suc n) k (b ∷ s) from)
+      go true t ih =
+          let same : from ≡ length (b ∷ s) = eqb-true from (length (b ∷ s)) t in
+          rw (entries-end k (b ∷ s) (suc n) from same) (done (e ∙ at-end from same))
+      go false t ih =
+          let ne : from ≡ length (b ∷ s) → ⊥ = eqb-false from (length (b ∷ s)) t in
+          let lt : from < length (b ∷ s) = omega arith in
+          rw (entries-suc k (b ∷ s) n from lt)
+          (every-then _ _ (entryAt k (b ∷ s) from) _
+          (every-both (λ d q. (from + 1 ≤ q) × (q ≤ length (b ∷ s))) _ (entryAt k (b ∷ s) from) (entry-ahead (b ∷ s) k from)
+          (every-both _ _ (entryAt k (b ∷ s) from) (every-self (entryAt k (b ∷ s) from)) (strings-walk k from)))
+          (λ d q w. every-then (λ es z. Walks readEntry readString (b ∷ s) q es) _ (entriesFrom n k (b ∷ s) q) _
+          (ih q q (entry-later q (omega arith) (w .0 .1) (λ x. omega (arith, r x lt))) (omega arith) (w .0 .1) (omega arith) (λ x y. omega (arith, r x lt)))
+          (λ es z rest. next (d .first) (e ∙ before-end from lt ∙ ap answerEntry (w .1 .0)) (w .1 .1) rest)))
+
+  -- the whole list, from place 1 on
+  pub entries-walk : (es : List Entry) (p : ℕ) → entries k (b ∷ s) ≡ got es p → Walks readEntry readString (b ∷ s) 1 es
+  unfolding entries
+  entries-walk es p e = go (firstAt (hasRows k) (b ∷ s)) refl (first-bounds (hasRows k) (b ∷ s) (omega arith)) e
+    where
+      go : (x : Field ℕ) → firstAt (hasRows k) (b ∷ s) ≡ x
+          → Every (λ first q. (1 ≤ first) × (first ≤ length (b ∷ s)) × (hasRows k ≡ true → (length (b ∷ s) ≡ 1 → ⊥) → 17 ≤ first)) x
+          → andThen x (λ first q. entriesFrom (length (b ∷ s)) k (b ∷ s) first) ≡ got es p
+          → Walks readEntry readString (b ∷ s) 1 es
+      go (got first q) f (h, l, r) i =
+          of-got (λ es z. Walks readEntry readString (b ∷ s) 1 es) (entriesFrom (length (b ∷ s)) k (b ∷ s) first) es p
+          (walk (length (b ∷ s)) 1 first (entry-first ∙ ap (firstEntry k (b ∷ s)) f) h l (omega arith) (λ w z. r w (λ one. omega arith))) i
+      go (fault why) f h i = let z : _≡_ {A = ℕ} 0 1 = cc in absurd (omega arith)

@@ -1,0 +1,9 @@
+pub mod Fields
+pub mod Entries
+pub mod Reading
+pub mod Building
+pub mod Calls
+pub mod Claims
+pub mod Laws
+pub mod Theorems
+pub mod StandIns

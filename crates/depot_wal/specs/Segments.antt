@@ -1,0 +1,31 @@
+-- How a read's and a write's answer pass to C: what the call returns, and what it leaves in `out`.
+-- To be believed. Assumes nothing.
+use mathlib.Core.List.{List, [], _∷_}
+use Prim.Native.Nat.{ℕ}
+use Rattle.wal_types.specs.Refusals.{numberOf, placeOf}
+use Rattle.segment_format.specs.declared.ReadAnswer.{ReadAnswer}
+use Rattle.segment_format.specs.declared.ReadAnswer.the-variants.{Record, End, Refused}
+use Rattle.segment_format.specs.declared.WriteAnswer.{WriteAnswer}
+use Rattle.segment_format.specs.declared.WriteAnswer.the-variants.{Next, Refused as WriteRefused}
+
+-- 0 for a record, 200 for a clean end, else document 01's number
+abbrev pub readCode : ReadAnswer → ℕ
+readCode (Record start n next) = 0
+readCode End = 200
+readCode (Refused why) = numberOf why
+
+-- a record's start, length and place after it; at an end zeros; of a refusal its place and then zeros
+abbrev pub readOut : ReadAnswer → List ℕ
+readOut (Record start n next) = start .0 ∷ n ∷ next .0 ∷ []
+readOut End = 0 ∷ 0 ∷ 0 ∷ []
+readOut (Refused why) = placeOf why .0 ∷ 0 ∷ 0 ∷ []
+
+-- 0 for a write that was done, else document 01's number
+abbrev pub writeCode : WriteAnswer → ℕ
+writeCode (Next q) = 0
+writeCode (WriteRefused why) = numberOf why
+
+-- the place for the next write, after a refusal the place p that was given; then the refusal's place, else 0
+abbrev pub writeOut : ℕ → WriteAnswer → List ℕ
+writeOut p (Next q) = q .0 ∷ 0 ∷ []
+writeOut p (WriteRefused why) = p ∷ placeOf why .0 ∷ []

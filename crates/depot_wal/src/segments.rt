@@ -1,0 +1,108 @@
+// Reading and writing one segment.
+ghost use mathlib.Core.Path.{_≡_};
+ghost use Rattle.segment_format.specs.Calls.{reader, writer};
+ghost use Rattle.segment.specs.Sums.{crcSum, lentSum};
+ghost use Rattle.depot_wal.specs.Segments.{readCode, readOut, writeCode, writeOut};
+use segment_format::ReadAnswer;
+use segment_format::WriteAnswer;
+use wal_types::Offset;
+
+// Passes a read's answer on.
+fn tell_read(answer: ReadAnswer, out: &mut [u64; 3]) -> u32
+    ensures { λ r. ⌜ (r ≡ readCode answer) × (now (out .exit) ≡ readOut answer) ⌝ }
+{
+    match answer {
+        ReadAnswer::Record {
+            start,
+            length,
+            next,
+        } => {
+            *out = [start.0 as u64, length as u64, next.0 as u64];
+            0
+        }
+        ReadAnswer::End => {
+            *out = [0, 0, 0];
+            200
+        }
+        ReadAnswer::Refused(why) => {
+            let at = wal_types::place(why);
+            *out = [at.0 as u64, 0, 0];
+            wal_types::number(why)
+        }
+    }
+}
+
+// Passes a write's answer on; `place` is the one that the write was given.
+fn tell_write(answer: WriteAnswer, place: usize, out: &mut [u64; 2]) -> u32
+    ensures { λ r. ⌜ (r ≡ writeCode answer) × (now (out .exit) ≡ writeOut place answer) ⌝ }
+{
+    match answer {
+        WriteAnswer::Next(next) => {
+            *out = [next.0 as u64, 0];
+            0
+        }
+        WriteAnswer::Refused(why) => {
+            let at = wal_types::place(why);
+            *out = [place as u64, at.0 as u64];
+            wal_types::number(why)
+        }
+    }
+}
+
+// Writes a record at a place.
+#[no_mangle]
+pub extern "C" fn depot_wal_write(
+    segment: &mut [u8],
+    place: usize,
+    payload: &[u8],
+    out: &mut [u64; 2],
+) -> u32
+    ensures { λ r. ⌜ (r ≡ writeCode (writer crcSum (now (segment .entry)) place (now (payload .entry)) .answer)) × (now (out .exit) ≡ writeOut place (writer crcSum (now (segment .entry)) place (now (payload .entry)) .answer)) × (now (segment .exit) ≡ writer crcSum (now (segment .entry)) place (now (payload .entry)) .slice) ⌝ }
+{
+    let answer = segment::write(segment, Offset(place), payload);
+    tell_write(answer, place, out)
+}
+
+// Reads the record at a place into the buffer.
+#[no_mangle]
+pub extern "C" fn depot_wal_read(
+    segment: &[u8],
+    place: usize,
+    buffer: &mut [u8],
+    out: &mut [u64; 3],
+) -> u32
+    ensures { λ r. ⌜ (r ≡ readCode (reader crcSum (now (segment .entry)) place (now (buffer .entry)) .answer)) × (now (out .exit) ≡ readOut (reader crcSum (now (segment .entry)) place (now (buffer .entry)) .answer)) × (now (buffer .exit) ≡ reader crcSum (now (segment .entry)) place (now (buffer .entry)) .buffer) ⌝ }
+{
+    let answer = segment::read(segment, Offset(place), buffer);
+    tell_read(answer, out)
+}
+
+// `depot_wal_write` with the checksum's table lent.
+#[no_mangle]
+pub extern "C" fn depot_wal_write_with_table(
+    table: &[u32; 2048],
+    segment: &mut [u8],
+    place: usize,
+    payload: &[u8],
+    out: &mut [u64; 2],
+) -> u32
+    ensures { λ r. ⌜ (r ≡ writeCode (writer (lentSum (now (table .entry))) (now (segment .entry)) place (now (payload .entry)) .answer)) × (now (out .exit) ≡ writeOut place (writer (lentSum (now (table .entry))) (now (segment .entry)) place (now (payload .entry)) .answer)) × (now (segment .exit) ≡ writer (lentSum (now (table .entry))) (now (segment .entry)) place (now (payload .entry)) .slice) ⌝ }
+{
+    let answer = segment::write_with_table(table, segment, Offset(place), payload);
+    tell_write(answer, place, out)
+}
+
+// `depot_wal_read` with the checksum's table lent.
+#[no_mangle]
+pub extern "C" fn depot_wal_read_with_table(
+    table: &[u32; 2048],
+    segment: &[u8],
+    place: usize,
+    buffer: &mut [u8],
+    out: &mut [u64; 3],
+) -> u32
+    ensures { λ r. ⌜ (r ≡ readCode (reader (lentSum (now (table .entry))) (now (segment .entry)) place (now (buffer .entry)) .answer)) × (now (out .exit) ≡ readOut (reader (lentSum (now (table .entry))) (now (segment .entry)) place (now (buffer .entry)) .answer)) × (now (buffer .exit) ≡ reader (lentSum (now (table .entry))) (now (segment .entry)) place (now (buffer .entry)) .buffer) ⌝ }
+{
+    let answer = segment::read_with_table(table, segment, Offset(place), buffer);
+    tell_read(answer, out)
+}
