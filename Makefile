@@ -1,22 +1,38 @@
-# make demo    the main job, shown: switches written, the power cut in the middle of one, what comes back
-# make test    everything that has to hold; .ci/run calls it
-# make bench   our speed beside the second program's, as ratios of one run
+# make demo      the main job, shown: switches written, the power cut in the middle of one, what comes back
+# make test      everything that has to hold; .ci/run calls it
+# make bench     our speed beside the second program's, as ratios of one run
+# make valgrind  the C test and the listing on hostile inputs under valgrind (slow, not part of the test)
 
 export CARGO_TARGET_DIR := $(CURDIR)/build/cargo
 ARCHIVE := target/staticlib/libdepot_wal.a
+CFLAGS := -std=c99 -Wall -Wextra -Werror -O2 -Iinclude
 
-.PHONY: test bench archive reference clean
+.PHONY: demo test bench valgrind archive clean
+
+demo: archive
+	@gcc $(CFLAGS) examples/switch.c $(ARCHIVE) -o build/switch
+	@build/switch
 
 test:
 	@tools/gate
 
 bench: archive
-	@cargo build --quiet --release --offline --features tables --manifest-path tests/compare/Cargo.toml --bin bench
+	@cargo build --quiet --release --offline --features tables,bodies --manifest-path tests/compare/Cargo.toml --bin bench
 	@build/cargo/release/bench
 
+valgrind: archive
+	@gcc $(CFLAGS) -g tests/c/calls.c $(ARCHIVE) -o build/calls
+	@valgrind --quiet --error-exitcode=1 build/calls
+	@for f in fixtures/*_00000000 $(ARCHIVE) Makefile; do \
+	    valgrind --quiet --error-exitcode=1 target/bin/list <$$f >/dev/null || exit 1; done
+	@echo 'valgrind: no error'
+
+# Only proved crates are built: the first time this proves the library, which takes minutes; then only what has changed.
 archive:
-	@echo 'proving the library (only what has changed since it was last proved)'
-	@mkdir -p build && rt staticlib depot_wal >build/staticlib.log 2>&1 || { tail -n 40 build/staticlib.log; exit 1; }
+	@mkdir -p build
+	@echo 'Proving the library and the listing program (minutes the first time) ..'
+	@rt check list >build/check.log 2>&1 || { tail -n 40 build/check.log; exit 1; }
+	@rt staticlib depot_wal >build/staticlib.log 2>&1 || { tail -n 40 build/staticlib.log; exit 1; }
 
 clean:
 	rm -rf target build

@@ -1,0 +1,132 @@
+-- What each entry's fields come to, fault by fault, in the code's forms.
+use mathlib.Core.Path.{_≡_, refl, sym, ap, ap₂, _∙_}
+use mathlib.Core.List.{List}
+use Prim.Native.Nat.{ℕ, _+_}
+use lib.IntN.{ℤ, pos}
+use lib.ListN.{length, drop}
+use Rattle.varint.specs.Fixed.{readBe8}
+use Rattle.wal_types.specs.declared.Refusal.{Refusal}
+use Rattle.wal_types.specs.declared.SeriesId.{SeriesId}
+use Rattle.wal_types.specs.declared.Timestamp.{Timestamp}
+use Rattle.wal_types.specs.Terms.{offset, seriesId, timestamp}
+use Rattle.wal_types.specs.Deltas.{plus, fromBits}
+use Rattle.body_format.specs.declared.EntryAnswer.{EntryAnswer}
+use Rattle.body_format.specs.declared.EntryAnswer.the-variants.{Found, Refused}
+use Rattle.body_format.specs.Fields.{Field, got, fault, Texts, fixedAt, uvarintAt, varintAt, byteAt, textListAt}
+use Rattle.body_format.specs.Entries.{Row, Entry, seriesEntry, sampleEntry, tombstoneEntry, exemplarEntry, metadataEntry, rowAt, seriesAt, sampleAt, tombstoneAt, exemplarAt, metadataAt}
+use Rattle.body_format.specs.Reading.{view, answerEntry}
+use Rattle.body.specs.declared.entries.Base.{Base}
+use Rattle.body.specs.declared.entries.RowRead.{RowRead}
+use Rattle.body.specs.declared.entries.RowRead.the-variants as row
+use Rattle.body.specs.Answers.{baseIn, rowRead}
+
+module _ (s : List ℕ) (p : ℕ) where
+  -- a row
+  pub row-1 : {why : Refusal} → uvarintAt s p ≡ fault why → row.Fault why ≡ rowRead (rowAt s p)
+  unfolding rowAt
+  row-1 h = rw h
+
+  pub row-2 : {d q : ℕ} {why : Refusal} → uvarintAt s p ≡ got d q → uvarintAt s q ≡ fault why → row.Fault why ≡ rowRead (rowAt s p)
+  unfolding rowAt
+  row-2 h i = rw (h, i)
+
+  pub row-3 : {d q e r : ℕ} {why : Refusal} → uvarintAt s p ≡ got d q → uvarintAt s q ≡ got e r → fixedAt s r ≡ fault why
+      → row.Fault why ≡ rowRead (rowAt s p)
+  unfolding rowAt
+  row-3 h i j = rw (h, i, j)
+
+  pub row-all : {d q e r v next sum : ℕ} (base : Base) (id : SeriesId) (time : Timestamp)
+      → uvarintAt s p ≡ got d q → uvarintAt s q ≡ got e r → fixedAt s r ≡ got v next
+      → base ≡ baseIn s → id .0 ≡ plus (base .id .0) d → sum ≡ plus (base .time) e → time .0 ≡ fromBits sum
+      → row.Got id time v next ≡ rowRead (rowAt s p)
+  unfolding rowAt
+  row-all {d} {q} {e} {r} {v} {next} {sum} base id time h i j b x y z =
+      let a : id .0 ≡ plus (readBe8 (drop 1 s)) d = x ∙ ap (λ (w : Base). plus (w .id .0) d) b in
+      let t : time .0 ≡ fromBits (plus (readBe8 (drop 9 s)) e) = z ∙ ap fromBits (y ∙ ap (λ (w : Base). plus (w .time) e) b) in
+      rw (h, i, j) (ap₂ (λ (m : ℕ) (n : ℤ). row.Got (seriesId m) (timestamp n) v next) a t)
+
+  -- type 1
+  pub series-1 : {why : Refusal} → fixedAt s p ≡ fault why → Refused why ≡ answerEntry (seriesAt s p)
+  unfolding seriesAt
+  series-1 h = rw h
+
+  pub series-2 : {id q : ℕ} {why : Refusal} → fixedAt s p ≡ got id q → textListAt s q ≡ fault why → Refused why ≡ answerEntry (seriesAt s p)
+  unfolding seriesAt
+  series-2 h i = rw (h, i)
+
+  pub series-all : {id q n first next : ℕ} → fixedAt s p ≡ got id q
+      → (l : Texts) × (textListAt s q ≡ got l next) × (length (l .strings) ≡ n) × (l .first ≡ first)
+      → Found (record { kind = 1; id = seriesId id; time = timestamp (pos 0); max = timestamp (pos 0); bits = 0; strings = n; first = offset first; next = offset next })
+      ≡ answerEntry (seriesAt s p)
+  unfolding seriesAt
+  series-all h (l, i, j, k) = rw (h, i, ← j, ← k)
+
+  -- type 2
+  pub sample-1 : {why : Refusal} → rowAt s p ≡ fault why → Refused why ≡ answerEntry (sampleAt s p)
+  unfolding sampleAt
+  sample-1 h = rw h
+
+  pub sample-all : {next v : ℕ} {id : SeriesId} {time : Timestamp} → rowAt s p ≡ got (record { id = id .0; time = time .0; bits = v }) next
+      → Found (record { kind = 2; id = id; time = time; max = timestamp (pos 0); bits = v; strings = 0; first = offset next; next = offset next })
+      ≡ answerEntry (sampleAt s p)
+  unfolding sampleAt
+  sample-all h = rw h
+
+  -- type 3
+  pub tombstone-1 : {why : Refusal} → fixedAt s p ≡ fault why → Refused why ≡ answerEntry (tombstoneAt s p)
+  unfolding tombstoneAt
+  tombstone-1 h = rw h
+
+  pub tombstone-2 : {id q : ℕ} {why : Refusal} → fixedAt s p ≡ got id q → varintAt s q ≡ fault why → Refused why ≡ answerEntry (tombstoneAt s p)
+  unfolding tombstoneAt
+  tombstone-2 h i = rw (h, i)
+
+  pub tombstone-3 : {id q r : ℕ} {min : ℤ} {why : Refusal} → fixedAt s p ≡ got id q → varintAt s q ≡ got min r → varintAt s r ≡ fault why
+      → Refused why ≡ answerEntry (tombstoneAt s p)
+  unfolding tombstoneAt
+  tombstone-3 h i j = rw (h, i, j)
+
+  pub tombstone-all : {id q r next : ℕ} {min max x y : ℤ} → fixedAt s p ≡ got id q → varintAt s q ≡ got min r → varintAt s r ≡ got max next
+      → x ≡ min → y ≡ max
+      → Found (record { kind = 3; id = seriesId id; time = timestamp x; max = timestamp y; bits = 0; strings = 0; first = offset next; next = offset next })
+      ≡ answerEntry (tombstoneAt s p)
+  unfolding tombstoneAt
+  tombstone-all h i j k l = rw (h, i, j, k, l)
+
+  -- type 4
+  pub exemplar-1 : {why : Refusal} → rowAt s p ≡ fault why → Refused why ≡ answerEntry (exemplarAt s p)
+  unfolding exemplarAt
+  exemplar-1 h = rw h
+
+  pub exemplar-2 : {r : Row} {q : ℕ} {why : Refusal} → rowAt s p ≡ got r q → textListAt s q ≡ fault why → Refused why ≡ answerEntry (exemplarAt s p)
+  unfolding exemplarAt
+  exemplar-2 h i = rw (h, i)
+
+  pub exemplar-all : {q v n first next : ℕ} {id : SeriesId} {time : Timestamp}
+      → rowAt s p ≡ got (record { id = id .0; time = time .0; bits = v }) q
+      → (l : Texts) × (textListAt s q ≡ got l next) × (length (l .strings) ≡ n) × (l .first ≡ first)
+      → Found (record { kind = 4; id = id; time = time; max = timestamp (pos 0); bits = v; strings = n; first = offset first; next = offset next })
+      ≡ answerEntry (exemplarAt s p)
+  unfolding exemplarAt
+  exemplar-all h (l, i, j, k) = rw (h, i, ← j, ← k)
+
+  -- type 6
+  pub metadata-1 : {why : Refusal} → uvarintAt s p ≡ fault why → Refused why ≡ answerEntry (metadataAt s p)
+  unfolding metadataAt
+  metadata-1 h = rw h
+
+  pub metadata-2 : {id q : ℕ} {why : Refusal} → uvarintAt s p ≡ got id q → byteAt s q ≡ fault why → Refused why ≡ answerEntry (metadataAt s p)
+  unfolding metadataAt
+  metadata-2 h i = rw (h, i)
+
+  pub metadata-3 : {id q m r : ℕ} {why : Refusal} → uvarintAt s p ≡ got id q → byteAt s q ≡ got m r → textListAt s r ≡ fault why
+      → Refused why ≡ answerEntry (metadataAt s p)
+  unfolding metadataAt
+  metadata-3 h i j = rw (h, i, j)
+
+  pub metadata-all : {id q m r n first next : ℕ} → uvarintAt s p ≡ got id q → byteAt s q ≡ got m r
+      → (l : Texts) × (textListAt s r ≡ got l next) × (length (l .strings) ≡ n) × (l .first ≡ first)
+      → Found (record { kind = 6; id = seriesId id; time = timestamp (pos 0); max = timestamp (pos 0); bits = m; strings = n; first = offset first; next = offset next })
+      ≡ answerEntry (metadataAt s p)
+  unfolding metadataAt
+  metadata-all h i (l, j, k, o) = rw (h, i, j, ← k, ← o)

@@ -1,0 +1,44 @@
+-- `metadata_at` meets its contract, field by field.
+use borrow.Author.Needs.{needs}
+use Rattle.body.proofs.Forms.{number-got, number-fault, list-got, list-fault}
+use Rattle.body.proofs.Rows.{metadata-1, metadata-2, metadata-3, metadata-all}
+use Rattle.body.proofs.entries.metadata_at.Statement.{statement}
+use Rattle.body.proofs.entries.metadata_at.Tie as tie
+
+returns : tie.Need-returns
+returns c =
+    metadata-all _ _
+    (number-got _ _ (c .before .before .before .before .before .before .before .before .before .before .before .uvarint-at .ensures) (c .before .before .before .before .before .before .before .before .before .id .given .1))
+    (number-got _ _ (c .before .before .before .before .before .before .before .byte-at .ensures) (c .before .before .before .before .before .metric .given .1))
+    (list-got _ _ (c .before .before .before .text-list-at .ensures) (c .before .count .given .1))
+
+returns-2 : tie.Need-returns-2
+returns-2 c =
+    metadata-3 _ _
+    (number-got _ _ (c .before .before .before .before .before .before .before .before .before .before .before .uvarint-at .ensures) (c .before .before .before .before .before .before .before .before .before .id .given .1))
+    (number-got _ _ (c .before .before .before .before .before .before .before .byte-at .ensures) (c .before .before .before .before .before .metric .given .1))
+    (list-fault _ _ (c .before .before .before .text-list-at .ensures) (c .before .why .given .1))
+
+returns-3 : tie.Need-returns-3
+returns-3 c = metadata-2 _ _ (number-got _ _ (c .before .before .before .before .before .before .before .uvarint-at .ensures) (c .before .before .before .before .before .id .given .1)) (number-fault _ _ (c .before .before .before .byte-at .ensures) (c .before .why2 .given .1))
+
+returns-4 : tie.Need-returns-4
+returns-4 c = metadata-1 _ _ (number-fault _ _ (c .before .before .before .uvarint-at .ensures) (c .before .why3 .given .1))
+
+pub metadata-at-spec : {M : Type 1} → statement M
+metadata-at-spec =
+    tie.close
+    (tie.spec
+    (λ c κs. search needs)
+    (λ c. search needs)
+    (λ c κs. search needs)
+    (λ c. search needs)
+    (λ c κs. search needs)
+    (λ c. search needs)
+    (λ c. search needs)
+    (λ c. search needs)
+    (λ c. search needs)
+    returns
+    returns-2
+    returns-3
+    returns-4)

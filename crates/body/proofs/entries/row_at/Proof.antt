@@ -1,0 +1,50 @@
+-- `row_at` meets its contract, field by field.
+use borrow.Author.Needs.{needs}
+use Rattle.wal_types.specs.Deltas.{plus}
+use Rattle.body.proofs.Forms.{number-got, number-fault}
+use Rattle.body.proofs.Rows.{row-1, row-2, row-3, row-all}
+use Rattle.body.proofs.entries.row_at.Statement.{statement}
+use Rattle.body.proofs.entries.row_at.Tie as tie
+
+returns : tie.Need-returns
+unfolding plus
+returns c =
+    row-all _ _ (c .before .before .before .before .before .before .before .before .before .before .before .before .before .before .before .before .args .base) (c .before .id-plus .result) (c .time-of-bits .result)
+    (number-got _ _ (c .before .before .before .before .before .before .before .before .before .before .before .before .before .before .uvarint-at .ensures) (c .before .before .before .before .before .before .before .before .before .before .before .before .from-id .given .1))
+    (number-got _ _ (c .before .before .before .before .before .before .before .before .before .before .uvarint-at2 .ensures) (c .before .before .before .before .before .before .before .before .from-time .given .1))
+    (number-got _ _ (c .before .before .before .before .before .before .fixed-at .ensures) (c .before .before .before .before .bits .given .1))
+    (c .before .before .before .before .before .before .before .before .before .before .before .before .before .before .before .before .pre) (c .before .id-plus .ensures) (c .before .before .wrapping-add-u64 .ensures) (c .time-of-bits .ensures)
+
+returns-2 : tie.Need-returns-2
+returns-2 c =
+    row-3 _ _
+    (number-got _ _ (c .before .before .before .before .before .before .before .before .before .before .before .uvarint-at .ensures) (c .before .before .before .before .before .before .before .before .before .from-id .given .1))
+    (number-got _ _ (c .before .before .before .before .before .before .before .uvarint-at2 .ensures) (c .before .before .before .before .before .from-time .given .1))
+    (number-fault _ _ (c .before .before .before .fixed-at .ensures) (c .before .why .given .1))
+
+returns-3 : tie.Need-returns-3
+returns-3 c = row-2 _ _ (number-got _ _ (c .before .before .before .before .before .before .before .uvarint-at .ensures) (c .before .before .before .before .before .from-id .given .1)) (number-fault _ _ (c .before .before .before .uvarint-at2 .ensures) (c .before .why2 .given .1))
+
+returns-4 : tie.Need-returns-4
+returns-4 c = row-1 _ _ (number-fault _ _ (c .before .before .before .uvarint-at .ensures) (c .before .why3 .given .1))
+
+pub row-at-spec : {M : Type 1} → statement M
+row-at-spec =
+    tie.close
+    (tie.spec
+    (λ c κs. search needs)
+    (λ c. search needs)
+    (λ c κs. search needs)
+    (λ c. search needs)
+    (λ c κs. search needs)
+    (λ c. search needs)
+    (λ c κs. search needs)
+    (λ c κs. search needs)
+    (λ c κs. search needs)
+    (λ c. search needs)
+    (λ c. search needs)
+    (λ c. search needs)
+    returns
+    returns-2
+    returns-3
+    returns-4)

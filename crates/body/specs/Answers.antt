@@ -1,0 +1,103 @@
+-- The definitions' readings in the forms that the code hands from one function to the next: where a string's bytes do not matter, they are left out.
+-- Assumes nothing.
+use mathlib.Core.Bool.{Bool, _||_, _&&_}
+use mathlib.Core.List.{List, [], _∷_}
+use Prim.Native.Nat.{ℕ, _+_}
+use lib.IntN.{ℤ}
+use lib.Dec.{ltb, leb, eqb}
+use lib.ListN.{length, drop}
+use Rattle.wal_types.specs.declared.Refusal.{Refusal}
+use Rattle.wal_types.specs.declared.Refusal.the-variants.{UnknownType, EmptyBody}
+use Rattle.wal_types.specs.Terms.{seriesId, timestamp}
+use Rattle.varint.specs.Fixed.{readBe8}
+use Rattle.body_format.specs.Fields.{Field, got, fault, Text, Texts}
+use Rattle.body_format.specs.Entries.{Kind, series, samples, tombstones, exemplars, metadata, Known, known, unknown, kindOf, Row}
+use Rattle.body.specs.declared.kinds.BodyKind.{BodyKind}
+use Rattle.body.specs.declared.kinds.BodyKind.the-variants.{Series, Samples, Tombstones, Exemplars, Metadata}
+use Rattle.body.specs.declared.kinds.TypeRead.{TypeRead}
+use Rattle.body.specs.declared.kinds.TypeRead.the-variants as type
+use Rattle.body.specs.declared.fields.NumberRead.{NumberRead}
+use Rattle.body.specs.declared.fields.NumberRead.the-variants as number
+use Rattle.body.specs.declared.fields.SignedRead.{SignedRead}
+use Rattle.body.specs.declared.fields.SignedRead.the-variants as signed
+use Rattle.body.specs.declared.strings.TextRead.{TextRead}
+use Rattle.body.specs.declared.strings.TextRead.the-variants as text
+use Rattle.body.specs.declared.strings.TextListRead.{TextListRead}
+use Rattle.body.specs.declared.strings.TextListRead.the-variants as list
+use Rattle.body.specs.declared.fields.Place.{Place}
+use Rattle.body.specs.declared.fields.Place.the-variants.{At, Fault}
+use Rattle.body.specs.declared.entries.Base.{Base}
+use Rattle.body.specs.declared.entries.RowRead.{RowRead}
+use Rattle.body.specs.declared.entries.RowRead.the-variants as row
+
+-- ---- types
+
+abbrev pub kindIn : BodyKind → Kind
+kindIn Series = series
+kindIn Samples = samples
+kindIn Tombstones = tombstones
+kindIn Exemplars = exemplars
+kindIn Metadata = metadata
+
+abbrev pub bodyKind : Kind → BodyKind
+bodyKind series = Series
+bodyKind samples = Samples
+bodyKind tombstones = Tombstones
+bodyKind exemplars = Exemplars
+bodyKind metadata = Metadata
+
+abbrev pub typeFound : Known → TypeRead
+typeFound (known k) = type.Known (bodyKind k)
+typeFound unknown = type.Refused UnknownType
+
+-- a body's first refusals: EmptyBody, UnknownType
+unfoldable pub typeRead : List ℕ → TypeRead
+typeRead [] = type.Refused EmptyBody
+typeRead (b ∷ s) = typeFound (kindOf b)
+
+-- ---- fields
+
+abbrev pub numberRead : Field ℕ → NumberRead
+numberRead (got n next) = number.Got n next
+numberRead (fault why) = number.Fault why
+
+abbrev pub signedRead : Field ℤ → SignedRead
+signedRead (got x next) = signed.Got x next
+signedRead (fault why) = signed.Fault why
+
+abbrev pub textRead : Field Text → TextRead
+textRead (got t next) = text.Got (t .start) (length (t .bytes)) next
+textRead (fault why) = text.Fault why
+
+-- strings in a row: the place after them
+abbrev pub textsPlace : Field (List (List ℕ)) → Place
+textsPlace (got ts next) = At next
+textsPlace (fault why) = Fault why
+
+-- strings in a row, behind `count` others of a list whose first begins at `first`
+abbrev pub tally : ℕ → ℕ → Field (List (List ℕ)) → TextListRead
+tally first count (got ts next) = list.Got (count + length ts) first next
+tally first count (fault why) = list.Fault why
+
+abbrev pub textListRead : Field Texts → TextListRead
+textListRead (got l next) = list.Got (length (l .strings)) (l .first) next
+textListRead (fault why) = list.Fault why
+
+-- ---- rows and places
+
+-- bytes 1 to 16
+abbrev pub baseIn : List ℕ → Base
+baseIn s = record { id = seriesId (readBe8 (drop 1 s)); time = readBe8 (drop 9 s) }
+
+abbrev pub rowRead : Field Row → RowRead
+rowRead (got r next) = row.Got (seriesId (r .id)) (timestamp (r .time)) (r .bits) next
+rowRead (fault why) = row.Fault why
+
+-- the place that a field's value is
+abbrev pub placeRead : Field ℕ → Place
+placeRead (got p next) = At p
+placeRead (fault why) = Fault why
+
+-- place 0, past `size` bytes, or 2 to 16 where there are rows
+unfoldable pub misplaced : Bool → ℕ → ℕ → Bool
+misplaced rows size p = eqb p 0 || (ltb size p || (rows && (leb 2 p && leb p 16)))

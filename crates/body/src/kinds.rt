@@ -1,0 +1,56 @@
+// The five types of a body.
+use wal_types::Refusal;
+ghost use mathlib.Core.Path.{_≡_};
+ghost use Rattle.body_format.specs.Entries.{kindOf, hasRows};
+ghost use Rattle.body.specs.Answers.{kindIn, typeFound, typeRead};
+
+pub(crate) enum BodyKind {
+    Series,
+    Samples,
+    Tombstones,
+    Exemplars,
+    Metadata,
+}
+
+// The type that a byte or a body has, or why it is refused.
+pub(crate) enum TypeRead {
+    Known(BodyKind),
+    Refused(Refusal),
+}
+
+// The type that a byte stands for.
+pub(crate) fn type_of(byte: u8) -> TypeRead
+    ensures { λ r. ⌜ r ≡ typeFound (kindOf byte) ⌝ }
+{
+    match byte {
+        1 => TypeRead::Known(BodyKind::Series),
+        2 => TypeRead::Known(BodyKind::Samples),
+        3 => TypeRead::Known(BodyKind::Tombstones),
+        4 => TypeRead::Known(BodyKind::Exemplars),
+        6 => TypeRead::Known(BodyKind::Metadata),
+        _ => TypeRead::Refused(Refusal::UnknownType),
+    }
+}
+
+// The type of a body, which its first byte says.
+pub(crate) fn body_type(body: &[u8]) -> TypeRead
+    ensures { λ r. ⌜ r ≡ typeRead (now (body .entry)) ⌝ }
+{
+    if body.len() == 0 {
+        return TypeRead::Refused(Refusal::EmptyBody);
+    }
+    type_of(body[0])
+}
+
+// Whether the entries are rows, behind a first id and a first timestamp.
+pub(crate) fn has_rows(kind: BodyKind) -> bool
+    ensures { λ r. ⌜ r ≡ hasRows (kindIn kind) ⌝ }
+{
+    match kind {
+        BodyKind::Series => false,
+        BodyKind::Samples => true,
+        BodyKind::Tombstones => false,
+        BodyKind::Exemplars => true,
+        BodyKind::Metadata => false,
+    }
+}
