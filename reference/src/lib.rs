@@ -10,5 +10,6 @@ pub mod listing;
 pub mod refusal;
 pub mod segment;
 pub mod selftest;
+pub mod tour;
 pub mod varint;
 pub mod vectors;

@@ -1,10 +1,11 @@
 //! `reference selftest`: the papers' literals against this program; nonzero on any difference.
 //! `reference vectors`: the lines that the product's program of vectors has to print.
+//! `reference reader`: the lines that the product's program `reader_tour` has to print.
 //! `reference list`: document 01's listing of a segment on standard input.
 
 #![forbid(unsafe_code)]
 
-use reference::{listing, selftest, vectors};
+use reference::{listing, selftest, tour, vectors};
 use std::io::{self, Read, Write};
 use std::process::ExitCode;
 
@@ -14,8 +15,9 @@ fn main() -> ExitCode {
     let done = match words[..] {
         ["selftest"] => selftest::run().map(|()| "selftest: all equal\n".to_string()),
         ["vectors"] => Ok(vectors::text()),
+        ["reader"] => Ok(tour::text()),
         ["list"] => Ok(listing::text(&input())),
-        _ => Err("usage: reference selftest | vectors | list".to_string()),
+        _ => Err("usage: reference selftest | vectors | reader | list".to_string()),
     };
     match done {
         Ok(text) => print(&text),

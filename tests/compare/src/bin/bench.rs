@@ -18,9 +18,13 @@ fn main() {
     let records = segments::bench_records();
     #[cfg(not(feature = "segments"))]
     let records = String::new();
+    #[cfg(feature = "bodies")]
+    let bodies = bodies::bench_bodies();
+    #[cfg(not(feature = "bodies"))]
+    let bodies = String::new();
     println!(
         "bench: {}",
-        format!("{sums}{records}").trim_end_matches(',')
+        format!("{sums}{records}{bodies}").trim_end_matches(',')
     );
 }
 
@@ -277,5 +281,136 @@ mod segments {
     #[cfg(not(feature = "tables"))]
     fn lent_read(_: &ffi::Table, slice: &[u8], place: usize, buffer: &mut [u8]) -> usize {
         ffi::read(slice, place, buffer).out[2] as usize
+    }
+}
+
+// ---- Bodies ----
+
+#[cfg(feature = "bodies")]
+mod bodies {
+    use super::{black_box, medians};
+    use compare::ffi;
+    use reference::body::{self, NewEntry, Sample, SeriesId, State, Timestamp};
+
+    /// Calls of a round.
+    const REPEATS: usize = 2_000;
+    /// Rows of the long body.
+    const ROWS: usize = 5_000;
+
+    /// Prints a line for each job and hands back the summary.
+    pub fn bench_bodies() -> String {
+        println!("bodies: ns per job, and the second program's time / ours");
+        println!("{:>22} {:>9} {:>9} {:>8}", "", "ours", "second", "2nd/ours");
+        let mut summary = String::from(" bodies");
+        for (name, bench) in [
+            ("build the switch", bench_build as fn() -> [f64; 2]),
+            ("read the switch", bench_read),
+            ("check 5,000 rows", bench_check),
+        ] {
+            let [ours, second] = bench();
+            println!(
+                "{name:>22} {ours:>9.1} {second:>9.1} {:>8.2}",
+                second / ours
+            );
+            summary += &format!(" {name}: {:.2},", second / ours);
+        }
+        summary
+    }
+
+    fn row(id: u64, time: i64, bits: u64) -> NewEntry<'static> {
+        NewEntry::Sample(Sample {
+            id: SeriesId(id),
+            time: Timestamp(time),
+            bits,
+        })
+    }
+
+    /// Document 01's switch: id 7 to 0, id 8 to 1.0.
+    fn switch() -> [NewEntry<'static>; 2] {
+        [row(7, 1_000, 0), row(8, 1_000, 0x3FF0 << 48)]
+    }
+
+    fn build_ours(buffer: &mut [u8], rows: &[NewEntry]) -> usize {
+        let mut used = ffi::body_start(buffer, 2).out[0] as usize;
+        for row in rows {
+            used = ffi::add(buffer, State { kind: 2, used }, row).out[0] as usize;
+        }
+        used
+    }
+
+    fn build_second(buffer: &mut [u8], rows: &[NewEntry]) -> usize {
+        let mut state = body::start(buffer, 2).expect("a samples body starts");
+        for row in rows {
+            state = body::add(buffer, state, row).expect("the rows fit");
+        }
+        state.used
+    }
+
+    fn two(times: Vec<f64>) -> [f64; 2] {
+        times.try_into().expect("two calls were timed")
+    }
+
+    fn repeat<T>(mut job: impl FnMut() -> T) {
+        for _ in 0..REPEATS {
+            black_box(job());
+        }
+    }
+
+    fn bench_build() -> [f64; 2] {
+        let rows = switch();
+        let (mut first, mut second) = ([0; 64], [0; 64]);
+        two(medians(
+            REPEATS,
+            &mut [
+                &mut || repeat(|| build_ours(black_box(&mut first), black_box(&rows))),
+                &mut || repeat(|| build_second(black_box(&mut second), black_box(&rows))),
+            ],
+        ))
+    }
+
+    /// Both entries, and the plain end.
+    fn bench_read() -> [f64; 2] {
+        let mut buffer = [0; 37];
+        build_second(&mut buffer, &switch());
+        let ours = |body: &[u8]| {
+            let mut place = 1;
+            for _ in 0..2 {
+                place = black_box(ffi::entry_at(body, place)).out[7] as usize;
+            }
+            ffi::entry_at(body, place).number
+        };
+        let second = |body: &[u8]| {
+            let mut place = 1;
+            while let Ok(Some(entry)) = black_box(body::entry_at(body, place)) {
+                place = entry.after;
+            }
+            place
+        };
+        two(medians(
+            REPEATS,
+            &mut [&mut || repeat(|| ours(black_box(&buffer))), &mut || {
+                repeat(|| second(black_box(&buffer)))
+            }],
+        ))
+    }
+
+    fn bench_check() -> [f64; 2] {
+        let mut buffer = vec![0; 65_536];
+        let rows: Vec<NewEntry> = (0..ROWS)
+            .map(|i| row(7 + i as u64 % 100, 1_000 + i as i64 / 100, i as u64))
+            .collect();
+        let used = build_second(&mut buffer, &rows);
+        let body = &buffer[..used];
+        two(medians(
+            1,
+            &mut [
+                &mut || {
+                    black_box(ffi::body_check(black_box(body)));
+                },
+                &mut || {
+                    let _ = black_box(body::check(black_box(body)));
+                },
+            ],
+        ))
     }
 }

@@ -1,0 +1,42 @@
+//! The lines that the product's program `reader_tour` has to print: seven records written from the
+//! start into three pages, each at the place that the write before handed back, byte i of a record
+//! being i modulo 256; then nine reads of the whole segment and nine of its first 50,000 bytes, each at
+//! the place after the record just yielded, and at the same place again after an end or a refusal.
+//! `segment LENGTH`, then for each read `record START LENGTH AFTER`, `end` or `refused NUMBER PLACE`.
+
+use crate::segment::{self, Reading, PAGE, RECORD_MAX};
+use std::fmt::Write;
+
+const LENGTHS: [usize; 7] = [0, 1, 37, 32_754, 40_000, 25_449, 0];
+const CUT: usize = 50_000;
+const READS: usize = 9;
+
+pub fn text() -> String {
+    let mut slice = vec![0; 3 * PAGE];
+    let mut place = 0;
+    for length in LENGTHS {
+        let record: Vec<u8> = (0..length).map(|i| i as u8).collect();
+        place = segment::write(&mut slice, place, &record).expect("the records fit");
+    }
+    let mut lines = String::new();
+    add_reads(&mut lines, &slice);
+    add_reads(&mut lines, &slice[..CUT]);
+    lines
+}
+
+fn add_reads(lines: &mut String, bytes: &[u8]) {
+    let mut line = |words: String| writeln!(lines, "{words}").expect("a string takes every line");
+    line(format!("segment {}", bytes.len()));
+    let mut place = 0;
+    for _ in 0..READS {
+        match segment::read(bytes, place, &mut vec![0; RECORD_MAX]) {
+            Ok(Reading::Record(record)) => {
+                let (start, length) = (record.start, record.length);
+                line(format!("record {start} {length} {}", record.after));
+                place = record.after;
+            }
+            Ok(Reading::End) => line("end".to_string()),
+            Err(refusal) => line(format!("refused {} {}", refusal.number, refusal.place)),
+        }
+    }
+}
