@@ -11,5 +11,6 @@ pub mod refusal;
 pub mod segment;
 pub mod selftest;
 pub mod tour;
+pub mod tour_samples;
 pub mod varint;
 pub mod vectors;

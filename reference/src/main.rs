@@ -1,11 +1,12 @@
 //! `reference selftest`: the papers' literals against this program; nonzero on any difference.
 //! `reference vectors`: the lines that the product's program of vectors has to print.
 //! `reference reader`: the lines that the product's program `reader_tour` has to print.
+//! `reference samples`: the lines that the product's program `samples_tour` has to print.
 //! `reference list`: document 01's listing of a segment on standard input.
 
 #![forbid(unsafe_code)]
 
-use reference::{listing, selftest, tour, vectors};
+use reference::{listing, selftest, tour, tour_samples, vectors};
 use std::io::{self, Read, Write};
 use std::process::ExitCode;
 
@@ -16,8 +17,9 @@ fn main() -> ExitCode {
         ["selftest"] => selftest::run().map(|()| "selftest: all equal\n".to_string()),
         ["vectors"] => Ok(vectors::text()),
         ["reader"] => Ok(tour::text()),
+        ["samples"] => Ok(tour_samples::text()),
         ["list"] => Ok(listing::text(&input())),
-        _ => Err("usage: reference selftest | vectors | reader | list".to_string()),
+        _ => Err("usage: reference selftest | vectors | reader | samples | list".to_string()),
     };
     match done {
         Ok(text) => print(&text),

@@ -1,0 +1,87 @@
+// Fills a list of four samples from twelve bodies and prints what was answered and the whole list afterwards. Before each, all four samples are nines:
+// so they must stand again after a refusal, and behind the samples of a body that has fewer than four.
+//
+// For each body it prints one of
+//     fill LENGTH -> filled COUNT
+//     fill LENGTH -> refused NUMBER PLACE
+// where LENGTH is the body's length in bytes, and then a line for each of the four samples:
+//     sample ID TIME BITS
+// All numbers are decimal.
+mod lines;
+mod list;
+
+fn main() {
+    kinds();
+    switches();
+    deltas();
+    rows();
+}
+
+// No byte; an unknown type; a series body; a samples body of no entry; one that ends before its first time.
+fn kinds() {
+    show(b"");
+    show(b"\x05");
+    show(b"\x01");
+    show(b"\x02");
+    show(b"\x02\0\0\0\0\0\0\0\0");
+}
+
+// Document 01's switch at time 1000, id 7 to 0, id 8 to 1.0: without its rows, whole, and without its last byte.
+fn switches() {
+    show(b"\x02\0\0\0\0\0\0\0\x07\0\0\0\0\0\0\x03\xE8");
+    show(
+        b"\x02\0\0\0\0\0\0\0\x07\0\0\0\0\0\0\x03\xE8\
+        \0\0\0\0\0\0\0\0\0\0\
+        \x01\0\x3F\xF0\0\0\0\0\0\0",
+    );
+    show(
+        b"\x02\0\0\0\0\0\0\0\x07\0\0\0\0\0\0\x03\xE8\
+        \0\0\0\0\0\0\0\0\0\0\
+        \x01\0\x3F\xF0\0\0\0\0\0",
+    );
+}
+
+// An id delta of ten bytes that goes on, and a row whose id and time go back by one from the first.
+fn deltas() {
+    show(
+        b"\x02\0\0\0\0\0\0\0\x07\0\0\0\0\0\0\x03\xE8\
+        \xFF\xFF\xFF\xFF\xFF\xFF\xFF\xFF\xFF\xFF",
+    );
+    show(
+        b"\x02\0\0\0\0\0\0\0\x07\0\0\0\0\0\0\x03\xE8\
+        \0\0\0\0\0\0\0\0\0\x01\
+        \xFF\xFF\xFF\xFF\xFF\xFF\xFF\xFF\xFF\x01\
+        \xFF\xFF\xFF\xFF\xFF\xFF\xFF\xFF\xFF\x01\
+        \0\0\0\0\0\0\0\x02",
+    );
+}
+
+// Four rows, which the list just holds, and five, which it does not.
+fn rows() {
+    show(
+        b"\x02\0\0\0\0\0\0\0\x07\0\0\0\0\0\0\x03\xE8\
+        \0\0\0\0\0\0\0\0\0\x01\
+        \0\0\0\0\0\0\0\0\0\x02\
+        \0\0\0\0\0\0\0\0\0\x03\
+        \0\0\0\0\0\0\0\0\0\x04",
+    );
+    show(
+        b"\x02\0\0\0\0\0\0\0\x07\0\0\0\0\0\0\x03\xE8\
+        \0\0\0\0\0\0\0\0\0\x01\
+        \0\0\0\0\0\0\0\0\0\x02\
+        \0\0\0\0\0\0\0\0\0\x03\
+        \0\0\0\0\0\0\0\0\0\x04\
+        \0\0\0\0\0\0\0\0\0\x05",
+    );
+}
+
+fn show(body: &[u8]) {
+    let filled = list::fill(body, list::nines());
+    let answer = filled.answer;
+    lines::answered(body.len(), answer);
+    let list = filled.list;
+    lines::sample(list[0]);
+    lines::sample(list[1]);
+    lines::sample(list[2]);
+    lines::sample(list[3]);
+}
