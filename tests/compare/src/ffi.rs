@@ -201,6 +201,50 @@ pub fn read_with_table(
     })
 }
 
+/// The calls on records as a C program makes them, for timing: `out` is the caller's, without guards.
+#[cfg(feature = "tables")]
+pub mod bare {
+    use super::*;
+
+    pub fn write(segment: &mut [u8], place: usize, record: &[u8], out: &mut [u64; 2]) -> u32 {
+        let (length, bytes) = (segment.len(), segment.as_mut_ptr());
+        let (data, data_len) = (record.as_ptr(), record.len());
+        unsafe { depot_wal_write(bytes, length, place, data, data_len, out.as_mut_ptr()) }
+    }
+
+    pub fn read(segment: &[u8], place: usize, buffer: &mut [u8], out: &mut [u64; 3]) -> u32 {
+        let (length, bytes) = (segment.len(), segment.as_ptr());
+        let (room, room_len) = (buffer.as_mut_ptr(), buffer.len());
+        unsafe { depot_wal_read(bytes, length, place, room, room_len, out.as_mut_ptr()) }
+    }
+
+    pub fn write_with_table(
+        table: &Table,
+        segment: &mut [u8],
+        place: usize,
+        record: &[u8],
+        out: &mut [u64; 2],
+    ) -> u32 {
+        let (length, bytes) = (segment.len(), segment.as_mut_ptr());
+        let (data, data_len) = (record.as_ptr(), record.len());
+        let (table, out) = (table.as_ptr(), out.as_mut_ptr());
+        unsafe { depot_wal_write_with_table(table, bytes, length, place, data, data_len, out) }
+    }
+
+    pub fn read_with_table(
+        table: &Table,
+        segment: &[u8],
+        place: usize,
+        buffer: &mut [u8],
+        out: &mut [u64; 3],
+    ) -> u32 {
+        let (length, bytes) = (segment.len(), segment.as_ptr());
+        let (room, room_len) = (buffer.as_mut_ptr(), buffer.len());
+        let (table, out) = (table.as_ptr(), out.as_mut_ptr());
+        unsafe { depot_wal_read_with_table(table, bytes, length, place, room, room_len, out) }
+    }
+}
+
 // ---- Bodies ----
 
 #[cfg(feature = "bodies")]

@@ -14,9 +14,9 @@ const ROUND_BYTES: usize = 1 << 20;
 
 fn main() {
     let sums = bench_checksums();
-    #[cfg(feature = "segments")]
+    #[cfg(feature = "tables")]
     let records = segments::bench_records();
-    #[cfg(not(feature = "segments"))]
+    #[cfg(not(feature = "tables"))]
     let records = String::new();
     #[cfg(feature = "bodies")]
     let bodies = bodies::bench_bodies();
@@ -134,7 +134,7 @@ mod hardware {
 
 // ---- Records ----
 
-#[cfg(feature = "segments")]
+#[cfg(feature = "tables")]
 mod segments {
     use super::{black_box, medians, own_table};
     use compare::ffi;
@@ -230,11 +230,7 @@ mod segments {
         let times = medians(
             count,
             &mut [
-                &mut || {
-                    write_all(one, &record, count, &|s, p, r| {
-                        ffi::write(s, p, r).out[0] as usize
-                    })
-                },
+                &mut || write_all(one, &record, count, &plain_write),
                 &mut || write_all(two, &record, count, &|s, p, r| lent_write(&table, s, p, r)),
                 &mut || write_all(three, &record, count, &second_write),
             ],
@@ -251,11 +247,7 @@ mod segments {
         let times = medians(
             count,
             &mut [
-                &mut || {
-                    read_all(&slice, one, count, &|s, p, b| {
-                        ffi::read(s, p, b).out[2] as usize
-                    })
-                },
+                &mut || read_all(&slice, one, count, &plain_read),
                 &mut || read_all(&slice, two, count, &|s, p, b| lent_read(&table, s, p, b)),
                 &mut || read_all(&slice, three, count, &second_read),
             ],
@@ -263,24 +255,30 @@ mod segments {
         times.try_into().expect("three calls were timed")
     }
 
-    #[cfg(feature = "tables")]
+    /// The place for the next write, by our plain call and by the one with a table.
+    fn plain_write(slice: &mut [u8], place: usize, record: &[u8]) -> usize {
+        let mut out = [0; 2];
+        ffi::bare::write(slice, place, record, &mut out);
+        out[0] as usize
+    }
+
     fn lent_write(table: &ffi::Table, slice: &mut [u8], place: usize, record: &[u8]) -> usize {
-        ffi::write_with_table(table, slice, place, record).out[0] as usize
+        let mut out = [0; 2];
+        ffi::bare::write_with_table(table, slice, place, record, &mut out);
+        out[0] as usize
     }
 
-    #[cfg(not(feature = "tables"))]
-    fn lent_write(_: &ffi::Table, slice: &mut [u8], place: usize, record: &[u8]) -> usize {
-        ffi::write(slice, place, record).out[0] as usize
+    /// The place after the record, likewise.
+    fn plain_read(slice: &[u8], place: usize, buffer: &mut [u8]) -> usize {
+        let mut out = [0; 3];
+        ffi::bare::read(slice, place, buffer, &mut out);
+        out[2] as usize
     }
 
-    #[cfg(feature = "tables")]
     fn lent_read(table: &ffi::Table, slice: &[u8], place: usize, buffer: &mut [u8]) -> usize {
-        ffi::read_with_table(table, slice, place, buffer).out[2] as usize
-    }
-
-    #[cfg(not(feature = "tables"))]
-    fn lent_read(_: &ffi::Table, slice: &[u8], place: usize, buffer: &mut [u8]) -> usize {
-        ffi::read(slice, place, buffer).out[2] as usize
+        let mut out = [0; 3];
+        ffi::bare::read_with_table(table, slice, place, buffer, &mut out);
+        out[2] as usize
     }
 }
 
