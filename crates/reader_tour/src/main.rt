@@ -79,7 +79,7 @@ fn read_records(segment: &[u8], buffer: &mut [u8]) {
     let mut place = Offset(0);
     let mut k = 0;
     while k < READS {
-        let step = reader::read_next(segment, place, buffer);
+        let step = reader::read_on(segment, place, buffer);
         place = print_step(step);
         k += 1;
     }

@@ -19,8 +19,8 @@ opened-requires c κs = search needs
 loop-holds : tie.Need-loop-holds Inv-loop μ-loop
 loop-holds c = search needs
 
-read-next-requires : tie.Need-read-next-requires Inv-loop μ-loop
-read-next-requires c κs = search needs
+read-on-requires : tie.Need-read-on-requires Inv-loop μ-loop
+read-on-requires c κs = search needs
 
 print-step-requires : tie.Need-print-step-requires Inv-loop μ-loop
 print-step-requires c κs = search needs
@@ -48,7 +48,7 @@ read-records-spec =
     μ-loop
     opened-requires
     loop-holds
-    read-next-requires
+    read-on-requires
     print-step-requires
     add-k
     loop-less
