@@ -7,20 +7,22 @@ export CARGO_TARGET_DIR := $(CURDIR)/build/cargo
 ARCHIVE := target/staticlib/libdepot_wal.a
 CFLAGS := -std=c99 -Wall -Wextra -Werror -O2 -Iinclude
 
-.PHONY: demo test bench valgrind archive clean
+SOURCES := crates.txt $(shell find crates -type f)
 
-demo: archive
+.PHONY: demo test bench valgrind clean
+
+demo: $(ARCHIVE)
 	@gcc $(CFLAGS) examples/switch.c $(ARCHIVE) -o build/switch
 	@build/switch
 
 test:
 	@tools/gate
 
-bench: archive
+bench: $(ARCHIVE)
 	@cargo build --quiet --release --offline --features tables,bodies --manifest-path tests/compare/Cargo.toml --bin bench
 	@build/cargo/release/bench
 
-valgrind: archive
+valgrind: $(ARCHIVE)
 	@gcc $(CFLAGS) -g tests/c/calls.c $(ARCHIVE) -o build/calls
 	@valgrind --quiet --error-exitcode=1 build/calls
 	@for f in fixtures/*_00000000 $(ARCHIVE) Makefile; do \
@@ -28,11 +30,12 @@ valgrind: archive
 	@echo 'valgrind: no error'
 
 # Only proved crates are built: the first time this proves the library, which takes minutes; then only what has changed.
-archive:
+$(ARCHIVE): $(SOURCES)
 	@mkdir -p build
 	@echo 'Proving the library and the listing program (minutes the first time) ..'
 	@rt check list >build/check.log 2>&1 || { tail -n 40 build/check.log; exit 1; }
 	@rt staticlib depot_wal >build/staticlib.log 2>&1 || { tail -n 40 build/staticlib.log; exit 1; }
+	@touch $@
 
 clean:
 	rm -rf target build
