@@ -1,5 +1,5 @@
 # make demo      the main job, shown: switches written, the power cut in the middle of one, what comes back
-# make test      everything that has to hold; .ci/run calls it
+# make test      everything that has to hold: rt ci, then the comparisons (tools/gate); .ci/run calls it
 # make bench     our speed beside the second program's, as ratios of one run
 # make valgrind  the C test and the listing on hostile inputs under valgrind (slow, not part of the test)
 
