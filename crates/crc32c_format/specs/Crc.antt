@@ -1,4 +1,5 @@
 -- Definition: CRC-32C (Castagnoli), bit by bit, as RFC 3720 gives it. The register and the polynomial are reflected: bit 0 leaves first.
+-- To be believed. Assumes nothing.
 use mathlib.Core.List.{List, [], _∷_}
 use Prim.Native.Nat.{ℕ, zero, suc, _*_, _/_, _%_}
 use lib.Bits.{bitXor}

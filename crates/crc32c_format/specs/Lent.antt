@@ -1,5 +1,6 @@
 -- Definition: the checksum by a table that the caller lends. It is defined for every table, and by `sliceTable`, or by one too short
 -- to be used, it is CRC-32C (Laws.antt).
+-- To be believed. Assumes nothing.
 use mathlib.Core.List.{List}
 use mathlib.Core.Bool.{true, false}
 use Prim.Native.Nat.{ℕ, zero, suc, _+_, _*_, _-_, _/_, _%_}

@@ -1,4 +1,5 @@
 -- Definition: the tables by which a register takes several bits at once.
+-- To be believed. Assumes nothing.
 use mathlib.Core.List.{List, [], _∷_, map}
 use Prim.Native.Nat.{ℕ, zero, suc, _+_, _*_, _/_, _%_, _^_}
 use Rattle.crc32c_format.specs.Crc.{bitSteps}

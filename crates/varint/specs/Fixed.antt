@@ -1,4 +1,5 @@
 -- Defines fixed fields of eight bytes, big-endian: the bytes of a number, and the number that bytes say.
+-- To be believed. Assumes nothing.
 use Prim.Native.Nat.{ℕ, _+_, _*_, _/_, _%_, _^_}
 use mathlib.Core.Bool.{true, false}
 use mathlib.Core.List.{List, [], _∷_, _++_}

@@ -1,4 +1,5 @@
 -- Defines what putting bytes into a lent slice leaves there, and which place it hands back.
+-- To be believed. Assumes nothing.
 use Prim.Native.Nat.{ℕ, _+_}
 use mathlib.Core.Bool.{true, false}
 use mathlib.Core.List.{List}

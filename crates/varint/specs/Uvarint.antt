@@ -1,4 +1,5 @@
 -- Defines the uvarint of a number, and what reading a uvarint at the front of some bytes finds.
+-- To be believed. Assumes nothing.
 use Prim.Native.Nat.{ℕ, zero, suc, _+_, _*_, _/_, _%_}
 use mathlib.Core.Bool.{true, false}
 use mathlib.Core.List.{List, [], _∷_}

@@ -1,4 +1,5 @@
 -- Defines the varint of a signed number, and what reading a varint at the front of some bytes finds.
+-- To be believed. Assumes nothing.
 use Prim.Native.Nat.{ℕ, _+_, _*_, _/_, _%_}
 use mathlib.Core.Bool.{true, false}
 use mathlib.Core.List.{List}
