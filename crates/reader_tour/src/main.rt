@@ -1,4 +1,4 @@
-// Writes seven records into a segment of three pages and reads them with the reader's step: once the whole segment, and once its first
+// Writes seven records into a segment of three pages and reads them by the reader: once the whole segment, and once its first
 // 50,000 bytes, which end inside the fifth record.
 //
 // The records have 0, 1, 37, 32754, 40000, 25449 and 0 bytes; byte i of a record is i modulo 256. Each is written at the place that the write
