@@ -29,6 +29,12 @@ fn load4(s: &[u8], at: usize) -> u32
     (load2(s, at) as u32) + (load2(s, at + 2) as u32) * 0x1_0000
 }
 
+fn wide(byte: u8) -> u32
+    ensures { λ r. ⌜ (r ≡ byte) × (r < 256) ⌝ }
+{
+    byte as u32
+}
+
 // ---- by the small table
 
 // What is left of four bits, and of one, two and four bytes, after 4 * k bits more than theirs.
@@ -76,13 +82,25 @@ fn step4(t: &[u32; 256], state: u32, s: &[u8], at: usize) -> u32
     left4(t, 0, state ^ load4(s, at))
 }
 
+// What is left of four bytes that no register meets. Taken one by one, they need no shifts and fewer masks.
+fn four_alone(t: &[u32; 256], s: &[u8], at: usize) -> u32
+    requires { ⌜ (now t ≡ nibbleTable) × (at + 4 ≤ length (now s)) ⌝ }
+    ensures { λ r. ⌜ r ≡ bitSteps 32 (littleEndian (take 4 (drop at (now (s .entry))))) ⌝ }
+{
+    let a = left1(t, 6, wide(s[at]));
+    let b = left1(t, 4, wide(s[at + 1]));
+    let c = left1(t, 2, wide(s[at + 2]));
+    let d = left1(t, 0, wide(s[at + 3]));
+    a ^ b ^ c ^ d
+}
+
 // The later four bytes first: they do not wait for the register.
 fn step8(t: &[u32; 256], state: u32, s: &[u8], at: usize) -> u32
     requires { ⌜ (now t ≡ nibbleTable) × (at + 8 ≤ length (now s)) ⌝ }
     ensures { λ r. ⌜ r ≡ register state (take 8 (drop at (now (s .entry)))) ⌝ }
 {
     let next = at + 4;
-    left4(t, 0, load4(s, next)) ^ left4(t, 8, state ^ load4(s, at))
+    four_alone(t, s, next) ^ left4(t, 8, state ^ load4(s, at))
 }
 
 // The register after as many eights as there are, after four more where there are four, and after the rest.
@@ -137,6 +155,15 @@ fn register_by_nibbles(t: &[u32; 256], state: u32, s: &[u8]) -> u32
     singles(t, b, s)
 }
 
+// The register after the bytes of a slice, for short data. A use of a constant array stores it whole on the stack, so the small table is
+// named in this one place, and lent from there. `&s[0..]` hands on the slice's address and length; `s` would have the pair copied in memory first.
+fn short(state: u32, s: &[u8]) -> u32
+    ensures { λ r. ⌜ r ≡ register state (now (s .entry)) ⌝ }
+{
+    let table = nibbles::NIBBLES;
+    register_by_nibbles(&table, state, &s[0..])
+}
+
 // ---- by folding
 
 // Folds the first n bytes of m into y.
@@ -165,8 +192,8 @@ fn rest(r: &mut [u8], y: &[u8], m: &[u8], n: usize)
 }
 
 // The register after a block: the bytes of a slice that is long enough to fold, and not too long for the buffer.
-fn block(t: &[u32; 256], state: u32, m: &[u8]) -> u32
-    requires { ⌜ (now t ≡ nibbleTable) × (266 ≤ length (now m)) × (length (now m) ≤ 8192) ⌝ }
+fn block(state: u32, m: &[u8]) -> u32
+    requires { ⌜ (266 ≤ length (now m)) × (length (now m) ≤ 8192) ⌝ }
     ensures { λ r. ⌜ r ≡ register state (now (m .entry)) ⌝ }
 {
     let n = m.len() - 266;
@@ -178,24 +205,23 @@ fn block(t: &[u32; 256], state: u32, m: &[u8]) -> u32
     fold(&mut y, m, n);
     let mut r = [0u8; 266];
     rest(&mut r, &y, m, n);
-    register_by_nibbles(t, 0, &r)
+    short(0, &r)
 }
 
 // The register after the bytes of a slice of at most a block: by a fold, where that is quicker.
-fn within_block(t: &[u32; 256], state: u32, s: &[u8]) -> u32
-    requires { ⌜ (now t ≡ nibbleTable) × (length (now s) ≤ 8192) ⌝ }
+fn within_block(state: u32, s: &[u8]) -> u32
+    requires { ⌜ length (now s) ≤ 8192 ⌝ }
     ensures { λ r. ⌜ r ≡ register state (now (s .entry)) ⌝ }
 {
     if 512 <= s.len() {
-        block(t, state, s)
+        block(state, s)
     } else {
-        register_by_nibbles(t, state, s)
+        short(state, s)
     }
 }
 
-// The register after the bytes of a slice, block by block.
-fn blocks(t: &[u32; 256], state: u32, s: &[u8]) -> u32
-    requires { ⌜ now t ≡ nibbleTable ⌝ }
+// The register after the bytes of a slice, for long data: block by block.
+fn long(state: u32, s: &[u8]) -> u32
     ensures { λ r. ⌜ r ≡ register state (now (s .entry)) ⌝ }
 {
     let n = s.len();
@@ -203,25 +229,10 @@ fn blocks(t: &[u32; 256], state: u32, s: &[u8]) -> u32
     let mut i = 0;
     while 8192 <= n - i {
         let e = i + 8192;
-        c = block(t, c, &s[i..e]);
+        c = block(c, &s[i..e]);
         i = e;
     }
-    within_block(t, c, &s[i..])
-}
-
-// A use of a constant array stores it whole on the stack, so the small table is named once for short data and once for long, and lent.
-fn short(state: u32, s: &[u8]) -> u32
-    ensures { λ r. ⌜ r ≡ register state (now (s .entry)) ⌝ }
-{
-    let table = nibbles::NIBBLES;
-    register_by_nibbles(&table, state, s)
-}
-
-fn long(state: u32, s: &[u8]) -> u32
-    ensures { λ r. ⌜ r ≡ register state (now (s .entry)) ⌝ }
-{
-    let table = nibbles::NIBBLES;
-    blocks(&table, state, s)
+    within_block(c, &s[i..])
 }
 
 // The register after the bytes of a slice, from any register: data may come in parts.
@@ -240,6 +251,13 @@ pub fn checksum(bytes: &[u8]) -> u32
     ensures { λ r. ⌜ r ≡ crc32c (now (bytes .entry)) ⌝ }
 {
     update(0xFFFF_FFFF, bytes) ^ 0xFFFF_FFFF
+}
+
+// The checksum of long data. Two callers of `long` keep the compiler from merging it, with its large buffer, into the path of short data.
+fn long_sum(bytes: &[u8]) -> u32
+    ensures { λ r. ⌜ r ≡ crc32c (now (bytes .entry)) ⌝ }
+{
+    long(0xFFFF_FFFF, bytes) ^ 0xFFFF_FFFF
 }
 
 // ---- the table to lend
@@ -381,9 +399,8 @@ fn table_singles(t: &[u32], state: u32, s: &[u8], at: usize) -> u32
     c
 }
 
-// The checksum of short data by a table. Each function that it calls has this one caller and is inlined: to hand a slice on to a call
-// would take longer than the sum.
-fn sum_by_table(t: &[u32], s: &[u8]) -> u32
+// The checksum of short data by a table.
+fn table_sum(t: &[u32], s: &[u8]) -> u32
     requires { ⌜ 2048 ≤ length (now t) ⌝ }
     ensures { λ r. ⌜ r ≡ bitXor (tableRegister (now (t .entry)) 0xFFFFFFFF (now (s .entry))) 0xFFFFFFFF ⌝ }
 {
@@ -395,13 +412,22 @@ fn sum_by_table(t: &[u32], s: &[u8]) -> u32
     table_singles(t, b, s, past_fours) ^ 0xFFFF_FFFF
 }
 
+// The same as one piece of machine code: each function below it has one caller and is inlined, and `&s[0..]`, as in `short`, has the slices
+// passed in registers. To hand them on in memory would take longer than the sum.
+fn sum_by_table(t: &[u32], s: &[u8]) -> u32
+    requires { ⌜ 2048 ≤ length (now t) ⌝ }
+    ensures { λ r. ⌜ r ≡ bitXor (tableRegister (now (t .entry)) 0xFFFFFFFF (now (s .entry))) 0xFFFFFFFF ⌝ }
+{
+    table_sum(&t[0..], &s[0..])
+}
+
 // The checksum by a table that the caller lends; one of fewer than 2,048 entries counts as none.
 pub fn sum(table: &[u32], bytes: &[u8]) -> u32
     ensures { λ r. ⌜ r ≡ sumBy (now (table .entry)) (now (bytes .entry)) ⌝ }
 {
-    if table.len() < 2048 {
-        checksum(bytes)
-    } else if 512 <= bytes.len() {
+    if 512 <= bytes.len() {
+        long_sum(bytes)
+    } else if table.len() < 2048 {
         checksum(bytes)
     } else {
         sum_by_table(table, bytes)
@@ -413,7 +439,7 @@ pub fn checksum_with_table(table: &[u32; 2048], bytes: &[u8]) -> u32
     ensures { λ r. ⌜ r ≡ sumBy (now (table .entry)) (now (bytes .entry)) ⌝ }
 {
     if 512 <= bytes.len() {
-        checksum(bytes)
+        long_sum(bytes)
     } else {
         sum_by_table(table, bytes)
     }

@@ -1,13 +1,14 @@
 -- Laws that other crates cite: the register goes on from where it is; by a table too short to be used, and by `sliceTable`, the lent sum
--- is CRC-32C; a checksum has 32 bits.
+-- is CRC-32C; a checksum has 32 bits; a slice handed on whole.
 use mathlib.Core.Path.{_≡_, ap, _∙_}
 use mathlib.Core.List.{List, [], _++_}
 use mathlib.Core.Logic.{⊎-elim}
-use Prim.Native.Nat.{ℕ, _<_, _≤_}
+use Prim.Native.Nat.{ℕ, _-_, _<_, _≤_}
 use native.Mathlib.Omega.{arith}
 use borrow.Author.Tests.{lt-ltb, le-ltb}
 use lib.Bits.{bitXor, xor-lt}
-use lib.ListN.{length, getD}
+use lib.ListN.{length, getD, take, drop}
+use lib.Seq.{take-length}
 use Rattle.crc32c_format.specs.Crc.{register, crc32c}
 use Rattle.crc32c_format.specs.Table.{sliceTable}
 use Rattle.crc32c_format.specs.Lent.{tableRegister, sumBy}
@@ -51,3 +52,7 @@ sumBy-slices d h =
 pub crc32c-lt : (d : List ℕ) → ((k : ℕ) → getD d k 0 < 256) → crc32c d < 4294967296
 unfolding crc32c
 crc32c-lt d h = xor-lt 32 (register 0xFFFFFFFF d) 0xFFFFFFFF (steps.register-lt 0xFFFFFFFF d (omega arith) h) (omega arith)
+
+-- a slice s that is handed on as `&s[0..]`
+pub whole-part : (s : List ℕ) → take (length s - 0) (drop 0 s) ≡ s
+whole-part s = let n : length s - 0 ≡ length s = omega arith in rw n (take-length s)

@@ -49,6 +49,35 @@ fn tell_write(answer: WriteAnswer, place: usize, out: &mut [u64; 2]) -> u32
     }
 }
 
+// A read, and its answer passed on, for the calls with a table and without. Here it ends in numbers: an answer handed to another function
+// would be stored in parts and loaded whole, which stalls. `&x[0..]` hands a slice on by its address and length.
+fn read_and_tell(
+    table: &[u32],
+    segment: &[u8],
+    place: usize,
+    buffer: &mut [u8],
+    out: &mut [u64; 3],
+) -> u32
+    ensures { λ r. ⌜ (r ≡ readCode (reader (lentSum (now (table .entry))) (now (segment .entry)) place (now (buffer .entry)) .answer)) × (now (out .exit) ≡ readOut (reader (lentSum (now (table .entry))) (now (segment .entry)) place (now (buffer .entry)) .answer)) × (now (buffer .exit) ≡ reader (lentSum (now (table .entry))) (now (segment .entry)) place (now (buffer .entry)) .buffer) ⌝ }
+{
+    let answer = segment::read_with_table(&table[0..], &segment[0..], Offset(place), buffer);
+    tell_read(answer, out)
+}
+
+// A write, likewise.
+fn write_and_tell(
+    table: &[u32],
+    segment: &mut [u8],
+    place: usize,
+    payload: &[u8],
+    out: &mut [u64; 2],
+) -> u32
+    ensures { λ r. ⌜ (r ≡ writeCode (writer (lentSum (now (table .entry))) (now (segment .entry)) place (now (payload .entry)) .answer)) × (now (out .exit) ≡ writeOut place (writer (lentSum (now (table .entry))) (now (segment .entry)) place (now (payload .entry)) .answer)) × (now (segment .exit) ≡ writer (lentSum (now (table .entry))) (now (segment .entry)) place (now (payload .entry)) .slice) ⌝ }
+{
+    let answer = segment::write_with_table(&table[0..], segment, Offset(place), &payload[0..]);
+    tell_write(answer, place, out)
+}
+
 // Writes a record at a place.
 #[no_mangle]
 pub extern "C" fn depot_wal_write(
@@ -59,8 +88,7 @@ pub extern "C" fn depot_wal_write(
 ) -> u32
     ensures { λ r. ⌜ (r ≡ writeCode (writer crcSum (now (segment .entry)) place (now (payload .entry)) .answer)) × (now (out .exit) ≡ writeOut place (writer crcSum (now (segment .entry)) place (now (payload .entry)) .answer)) × (now (segment .exit) ≡ writer crcSum (now (segment .entry)) place (now (payload .entry)) .slice) ⌝ }
 {
-    let answer = segment::write(segment, Offset(place), payload);
-    tell_write(answer, place, out)
+    write_and_tell(&segment::NO_TABLE, segment, place, payload, out)
 }
 
 // Reads the record at a place into the buffer.
@@ -73,8 +101,7 @@ pub extern "C" fn depot_wal_read(
 ) -> u32
     ensures { λ r. ⌜ (r ≡ readCode (reader crcSum (now (segment .entry)) place (now (buffer .entry)) .answer)) × (now (out .exit) ≡ readOut (reader crcSum (now (segment .entry)) place (now (buffer .entry)) .answer)) × (now (buffer .exit) ≡ reader crcSum (now (segment .entry)) place (now (buffer .entry)) .buffer) ⌝ }
 {
-    let answer = segment::read(segment, Offset(place), buffer);
-    tell_read(answer, out)
+    read_and_tell(&segment::NO_TABLE, segment, place, buffer, out)
 }
 
 // `depot_wal_write` with the checksum's table lent.
@@ -88,8 +115,7 @@ pub extern "C" fn depot_wal_write_with_table(
 ) -> u32
     ensures { λ r. ⌜ (r ≡ writeCode (writer (lentSum (now (table .entry))) (now (segment .entry)) place (now (payload .entry)) .answer)) × (now (out .exit) ≡ writeOut place (writer (lentSum (now (table .entry))) (now (segment .entry)) place (now (payload .entry)) .answer)) × (now (segment .exit) ≡ writer (lentSum (now (table .entry))) (now (segment .entry)) place (now (payload .entry)) .slice) ⌝ }
 {
-    let answer = segment::write_with_table(table, segment, Offset(place), payload);
-    tell_write(answer, place, out)
+    write_and_tell(table, segment, place, payload, out)
 }
 
 // `depot_wal_read` with the checksum's table lent.
@@ -103,6 +129,5 @@ pub extern "C" fn depot_wal_read_with_table(
 ) -> u32
     ensures { λ r. ⌜ (r ≡ readCode (reader (lentSum (now (table .entry))) (now (segment .entry)) place (now (buffer .entry)) .answer)) × (now (out .exit) ≡ readOut (reader (lentSum (now (table .entry))) (now (segment .entry)) place (now (buffer .entry)) .answer)) × (now (buffer .exit) ≡ reader (lentSum (now (table .entry))) (now (segment .entry)) place (now (buffer .entry)) .buffer) ⌝ }
 {
-    let answer = segment::read_with_table(table, segment, Offset(place), buffer);
-    tell_read(answer, out)
+    read_and_tell(table, segment, place, buffer, out)
 }

@@ -50,11 +50,11 @@ slice-aggregate-rest-2 c = search needs
 rest-requires : tie.Need-rest-requires
 rest-requires c κs = search needs
 
-slice-aggregate-register-by-nibbles : tie.Need-slice-aggregate-register-by-nibbles
-slice-aggregate-register-by-nibbles c = search needs
+slice-aggregate-short : tie.Need-slice-aggregate-short
+slice-aggregate-short c = search needs
 
-register-by-nibbles-requires : tie.Need-register-by-nibbles-requires
-register-by-nibbles-requires c κs = search needs
+short-requires : tie.Need-short-requires
+short-requires c κs = search needs
 
 returns : tie.Need-returns
 returns c =
@@ -62,7 +62,7 @@ returns c =
     let m = a .m .now in
     let y = c .before .before .before .before .before .before .before .fold .last .0 in
     let ly : length y ≡ 8458 = c .before .before .before .before .before .before .y2 .given in
-    c .register-by-nibbles .ensures
+    c .short .ensures
     ∙ register-fold 8454 (a .state) (length m - 266) m y (c .before .before .before .rest .last .0) (c .before .before .before .before .before .before .before .fold .ensures) (c .before .before .before .rest .ensures)
     (omega arith) (omega arith) (search needs)
 
@@ -84,6 +84,6 @@ block-spec =
     slice-aggregate-rest
     slice-aggregate-rest-2
     rest-requires
-    slice-aggregate-register-by-nibbles
-    register-by-nibbles-requires
+    slice-aggregate-short
+    short-requires
     returns)

@@ -9,7 +9,7 @@ use Rattle.crc32c.proofs.checksum_with_table.Tie as tie
 returns : tie.Need-returns
 returns c =
     let a = c .before .before .before .args in
-    c .checksum .ensures ∙ sym (sumBy-long (a .table .now) (a .bytes .now) (omega arith))
+    c .long-sum .ensures ∙ sym (sumBy-long (a .table .now) (a .bytes .now) (omega arith))
 
 returns-2 : tie.Need-returns-2
 returns-2 c =

@@ -1,40 +1,31 @@
--- The three runs are the definition.
+-- The slices are handed on whole.
 use borrow.Author.Needs.{needs}
 use Prim.Native.Nat.{ℕ}
-use mathlib.Core.Path.{ap}
+use mathlib.Core.List.{List}
+use mathlib.Core.Path.{ap₂, _∙_}
 use lib.Bits.{bitXor}
-use Rattle.crc32c_format.specs.Method.Slicing.{tableRegister-of}
+use Rattle.crc32c_format.specs.Lent.{tableRegister}
+use Rattle.crc32c_format.specs.Laws.{whole-part}
 use Rattle.crc32c.proofs.sum_by_table.Statement.{statement}
 use Rattle.crc32c.proofs.sum_by_table.Tie as tie
 
-sub-past-eights : tie.Need-sub-past-eights
-sub-past-eights c = search needs
-
-sub-past-fours : tie.Need-sub-past-fours
-sub-past-fours c = search needs
-
-table-eights-requires : tie.Need-table-eights-requires
-table-eights-requires c κs = search needs
-
-table-four-requires : tie.Need-table-four-requires
-table-four-requires c κs = search needs
-
-table-singles-requires : tie.Need-table-singles-requires
-table-singles-requires c κs = search needs
+table-sum-requires : tie.Need-table-sum-requires
+table-sum-requires c κs = rw (whole-part (c .before .before .before .before .args .t .now)) (search needs)
 
 returns : tie.Need-returns
 returns c =
     let a = c .before .before .before .before .before .args in
-    ap (λ (x : ℕ). bitXor x 0xFFFFFFFF)
-    (tableRegister-of (a .t .now) (a .s .now) 0xFFFFFFFF (c .before .before .table-eights .ensures) (c .before .table-four .ensures) (c .table-singles .ensures))
+    c .table-sum .ensures ∙ ap₂ (λ (t s : List ℕ). bitXor (tableRegister t 0xFFFFFFFF s) 0xFFFFFFFF) (whole-part (a .t .now)) (whole-part (a .s .now))
 
 pub sum-by-table-spec : {M : Type 1} → statement M
 sum-by-table-spec =
     tie.close
     (tie.spec
-    sub-past-eights
-    sub-past-fours
-    table-eights-requires
-    table-four-requires
-    table-singles-requires
+    (λ c. search needs)
+    (λ c. search needs)
+    (λ c. search needs)
+    (λ c. search needs)
+    (λ c. search needs)
+    (λ c. search needs)
+    table-sum-requires
     returns)

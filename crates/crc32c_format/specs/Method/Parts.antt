@@ -11,7 +11,7 @@ use lib.Seq.{drop-cons, drop-drop, take-add, length-take-le}
 use Rattle.crc32c_format.specs.Crc.{bitSteps, register}
 use Rattle.crc32c_format.specs.Bytes.{littleEndian}
 use Rattle.crc32c_format.specs.Method.Xor.{xor-assoc, xor-mul}
-use Rattle.crc32c_format.specs.Method.Steps.{bitSteps-xor, bitSteps-add, register-append, register-littleEndian}
+use Rattle.crc32c_format.specs.Method.Steps.{bitSteps-xor, bitSteps-add, bitSteps-shift, register-append, register-littleEndian}
 
 -- from the bytes passed to those to come
 pub register-take : (n : ℕ) (c : ℕ) (s : List ℕ) (at : ℕ) {r : ℕ} → r ≡ register c (take n (drop at s))
@@ -85,6 +85,30 @@ register-eight c s at {x} {y} h ex ey g =
     ∙ sym (register-part 4 (register c (take 4 (drop at s))) s (at + 4) (omega arith))
     ∙ sym (register-append c (take 4 (drop at s)) (take 4 (drop (at + 4) s)))
     ∙ ap (register c) (sym (take-twice 4 s at))
+
+-- what is left of the bytes at a place: of the first by itself, and of those behind it
+left-byte : (n k : ℕ) (s : List ℕ) (at next : ℕ) → suc at ≡ next → at < length s
+    → bitSteps (8 + n) (littleEndian (take (suc k) (drop at s))) ≡ bitXor (bitSteps (8 + n) (getD s at 0)) (bitSteps n (littleEndian (take k (drop next s))))
+unfolding littleEndian
+left-byte n k s at next e h =
+    ap (λ (l : List ℕ). bitSteps (8 + n) (littleEndian (take (suc k) l))) (drop-cons s at 0 h)
+    ∙ bitSteps-xor (8 + n) (getD s at 0) (littleEndian (take k (drop (suc at) s)) * 256)
+    ∙ ap (bitXor (bitSteps (8 + n) (getD s at 0))) (
+    bitSteps-add 8 n (littleEndian (take k (drop (suc at) s)) * 256)
+    ∙ ap (bitSteps n) (bitSteps-shift 8 (littleEndian (take k (drop (suc at) s))))
+    ∙ ap (λ (i : ℕ). bitSteps n (littleEndian (take k (drop i s)))) e)
+
+-- what is left of four bytes, from what is left of each
+pub left-four : (s : List ℕ) (at : ℕ) {a b c d : ℕ} → at + 4 ≤ length s → a ≡ bitSteps 32 (getD s at 0) → b ≡ bitSteps 24 (getD s (at + 1) 0)
+    → c ≡ bitSteps 16 (getD s (at + 2) 0) → d ≡ bitSteps 8 (getD s (at + 3) 0) → bitXor (bitXor (bitXor a b) c) d ≡ bitSteps 32 (littleEndian (take 4 (drop at s)))
+unfolding littleEndian bitSteps
+left-four s at {a} {b} {c} {d} h ea eb ec ed =
+    xor-assoc (bitXor a b) c d
+    ∙ xor-assoc a b (bitXor c d)
+    ∙ ap₂ bitXor ea (ap₂ bitXor eb (ap₂ bitXor ec (ed ∙ sym (left-byte 0 0 s (at + 3) (at + 4) (omega arith) (omega arith) ∙ xor-zero-r (bitSteps 8 (getD s (at + 3) 0))))
+    ∙ sym (left-byte 8 1 s (at + 2) (at + 3) (omega arith) (omega arith)))
+    ∙ sym (left-byte 16 2 s (at + 1) (at + 2) (omega arith) (omega arith)))
+    ∙ sym (left-byte 24 3 s at (at + 1) (omega arith) (omega arith))
 
 -- the number of n bytes has n bytes
 pub littleEndian-lt : (n : ℕ) (s : List ℕ) → ((k : ℕ) → getD s k 0 < 256) → littleEndian (take n s) < 2 ^ (8 * n)

@@ -1,0 +1,40 @@
+-- The three runs are the definition.
+use borrow.Author.Needs.{needs}
+use Prim.Native.Nat.{ℕ}
+use mathlib.Core.Path.{ap}
+use lib.Bits.{bitXor}
+use Rattle.crc32c_format.specs.Method.Slicing.{tableRegister-of}
+use Rattle.crc32c.proofs.table_sum.Statement.{statement}
+use Rattle.crc32c.proofs.table_sum.Tie as tie
+
+sub-past-eights : tie.Need-sub-past-eights
+sub-past-eights c = search needs
+
+sub-past-fours : tie.Need-sub-past-fours
+sub-past-fours c = search needs
+
+table-eights-requires : tie.Need-table-eights-requires
+table-eights-requires c κs = search needs
+
+table-four-requires : tie.Need-table-four-requires
+table-four-requires c κs = search needs
+
+table-singles-requires : tie.Need-table-singles-requires
+table-singles-requires c κs = search needs
+
+returns : tie.Need-returns
+returns c =
+    let a = c .before .before .before .before .before .args in
+    ap (λ (x : ℕ). bitXor x 0xFFFFFFFF)
+    (tableRegister-of (a .t .now) (a .s .now) 0xFFFFFFFF (c .before .before .table-eights .ensures) (c .before .table-four .ensures) (c .table-singles .ensures))
+
+pub table-sum-spec : {M : Type 1} → statement M
+table-sum-spec =
+    tie.close
+    (tie.spec
+    sub-past-eights
+    sub-past-fours
+    table-eights-requires
+    table-four-requires
+    table-singles-requires
+    returns)
