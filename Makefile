@@ -1,6 +1,6 @@
 # make demo      the main job, shown: switches written, the power cut in the middle of one, what comes back
 # make test      everything that has to hold: rt ci, then the comparisons (tools/gate); .ci/run calls it
-# make bench     our speed beside the second program's, as ratios of one run
+# make bench     our speed beside the second program's and the SSE4.2 instruction's, in one run (half a minute)
 # make valgrind  the C test and the listing on hostile inputs under valgrind (slow, not part of the test)
 
 export CARGO_TARGET_DIR := $(CURDIR)/build/cargo

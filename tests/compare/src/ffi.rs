@@ -2,6 +2,9 @@
 //! every second empty slice is lent as a null pointer. `out` stands between guard words and is
 //! filled with a pattern before each call.
 
+#[cfg(all(feature = "tables", feature = "bodies"))]
+pub mod bare;
+
 use std::sync::atomic::{AtomicBool, Ordering};
 
 /// Numbers in the checksum's table.
@@ -201,50 +204,6 @@ pub fn read_with_table(
     })
 }
 
-/// The calls on records as a C program makes them, for timing: `out` is the caller's, without guards.
-#[cfg(feature = "tables")]
-pub mod bare {
-    use super::*;
-
-    pub fn write(segment: &mut [u8], place: usize, record: &[u8], out: &mut [u64; 2]) -> u32 {
-        let (length, bytes) = (segment.len(), segment.as_mut_ptr());
-        let (data, data_len) = (record.as_ptr(), record.len());
-        unsafe { depot_wal_write(bytes, length, place, data, data_len, out.as_mut_ptr()) }
-    }
-
-    pub fn read(segment: &[u8], place: usize, buffer: &mut [u8], out: &mut [u64; 3]) -> u32 {
-        let (length, bytes) = (segment.len(), segment.as_ptr());
-        let (room, room_len) = (buffer.as_mut_ptr(), buffer.len());
-        unsafe { depot_wal_read(bytes, length, place, room, room_len, out.as_mut_ptr()) }
-    }
-
-    pub fn write_with_table(
-        table: &Table,
-        segment: &mut [u8],
-        place: usize,
-        record: &[u8],
-        out: &mut [u64; 2],
-    ) -> u32 {
-        let (length, bytes) = (segment.len(), segment.as_mut_ptr());
-        let (data, data_len) = (record.as_ptr(), record.len());
-        let (table, out) = (table.as_ptr(), out.as_mut_ptr());
-        unsafe { depot_wal_write_with_table(table, bytes, length, place, data, data_len, out) }
-    }
-
-    pub fn read_with_table(
-        table: &Table,
-        segment: &[u8],
-        place: usize,
-        buffer: &mut [u8],
-        out: &mut [u64; 3],
-    ) -> u32 {
-        let (length, bytes) = (segment.len(), segment.as_ptr());
-        let (room, room_len) = (buffer.as_mut_ptr(), buffer.len());
-        let (table, out) = (table.as_ptr(), out.as_mut_ptr());
-        unsafe { depot_wal_read_with_table(table, bytes, length, place, room, room_len, out) }
-    }
-}
-
 // ---- Bodies ----
 
 #[cfg(feature = "bodies")]
@@ -256,7 +215,12 @@ mod bodies {
     use reference::body::{NewEntry, State};
 
     extern "C" {
-        fn depot_wal_body_start(buffer: *mut u8, len: usize, kind: u8, out: *mut u64) -> u32;
+        pub(super) fn depot_wal_body_start(
+            buffer: *mut u8,
+            len: usize,
+            kind: u8,
+            out: *mut u64,
+        ) -> u32;
         fn depot_wal_add_series(
             buffer: *mut u8,
             len: usize,
@@ -269,7 +233,7 @@ mod bodies {
             count: usize,
             out: *mut u64,
         ) -> u32;
-        fn depot_wal_add_sample(
+        pub(super) fn depot_wal_add_sample(
             buffer: *mut u8,
             len: usize,
             kind: u8,
@@ -316,8 +280,13 @@ mod bodies {
             count: usize,
             out: *mut u64,
         ) -> u32;
-        fn depot_wal_body_check(body: *const u8, len: usize, out: *mut u64) -> u32;
-        fn depot_wal_entry_at(body: *const u8, len: usize, place: usize, out: *mut u64) -> u32;
+        pub(super) fn depot_wal_body_check(body: *const u8, len: usize, out: *mut u64) -> u32;
+        pub(super) fn depot_wal_entry_at(
+            body: *const u8,
+            len: usize,
+            place: usize,
+            out: *mut u64,
+        ) -> u32;
         fn depot_wal_string_at(body: *const u8, len: usize, place: usize, out: *mut u64) -> u32;
     }
 

@@ -1,0 +1,201 @@
+//! Records written and read over a whole segment.
+
+use crate::hardware;
+use crate::timing::{time, Rounds, HARDWARE, LENT, PLAIN, SECOND};
+use compare::ffi::{self, bare, Table};
+use reference::refusal::Refusal;
+use reference::segment::{self, Reading, PAGE, RECORD_MAX, SEGMENT_MAX};
+use std::hint::black_box;
+
+/// Bytes of a record.
+const LENGTHS: [usize; 3] = [37, 4_096, 65_536];
+const ROUNDS: usize = 15;
+
+const SETTING: &str = "\
+buffers: one segment, touched and filled before the rounds. The contenders write it in turn, all
+with the same bytes, and read it in turn. It is larger than a core's own caches; record, record
+buffer and table are warm. MB are millions of bytes of record data.";
+
+const WHY: &str = "\
+sse4.2 is the second program with the instruction as its checksum, for orientation. In the longer
+records it leads by that, as above, and by the copy: the second program's is memcpy, which the C
+library picks for the machine; the library's own is portable and goes in 16-byte vector steps.";
+
+/// Prints the rows of both jobs and hands back the summary.
+pub fn bench() -> String {
+    let (size, pages) = (SEGMENT_MAX >> 20, SEGMENT_MAX / PAGE);
+    println!("\nrecords: a whole segment of {size} MiB, {pages} pages, {ROUNDS} rounds\n{SETTING}");
+    let mut segment = vec![0; SEGMENT_MAX];
+    let jobs = [
+        bench_job("write", bench_write, &mut segment),
+        bench_job("read", bench_read, &mut segment),
+    ];
+    println!("{WHY}");
+    jobs.join(", ")
+}
+
+/// Prints the rows of one job: of each length, one for each contender.
+fn bench_job(name: &str, bench: fn(&mut Full) -> Rounds<4>, segment: &mut [u8]) -> String {
+    println!(
+        "{name:>8} {:>8} {:>11} {:>12} {:>9} {:>8} {:>8}",
+        "by", "ns/record", "records/s", "MB/s", "2nd/this", "sse/this"
+    );
+    let rows = LENGTHS.map(|length| {
+        let rounds = bench(&mut Full::new(segment, length));
+        print_rows(length, &rounds);
+        rounds.summary(length)
+    });
+    format!("{name} {}", rows.join(", "))
+}
+
+fn print_rows(length: usize, rounds: &Rounds<4>) {
+    for (by, this) in [
+        ("plain", PLAIN),
+        ("table", LENT),
+        ("second", SECOND),
+        ("sse4.2", HARDWARE),
+    ] {
+        let time = rounds.median(this);
+        println!(
+            "{length:>8} {by:>8} {time:>11.1} {:>12.0} {:>9.1} {:>8.2} {:>8.2}",
+            1e9 / time,
+            1e3 * length as f64 / time,
+            rounds.ratio(SECOND, this),
+            rounds.ratio(HARDWARE, this)
+        );
+    }
+}
+
+/// A segment full of records of one length, and the buffer that they are read into.
+struct Full<'a> {
+    segment: &'a mut [u8],
+    record: Vec<u8>,
+    count: usize,
+    /// The place after the last record.
+    end: usize,
+    buffer: Vec<u8>,
+}
+
+impl Full<'_> {
+    /// Filled by the second program.
+    fn new(segment: &mut [u8], length: usize) -> Full<'_> {
+        let record: Vec<u8> = (0..length).map(|i| (i * 31 + 7) as u8).collect();
+        let mut count = 0;
+        let mut end = 0;
+        while let Ok(next) = segment::write(segment, end, &record) {
+            end = next;
+            count += 1;
+        }
+        Full {
+            segment,
+            record,
+            count,
+            end,
+            buffer: vec![0; RECORD_MAX],
+        }
+    }
+
+    /// Writes all records by `write`, which hands back the next place.
+    fn write(&mut self, write: impl Fn(&mut [u8], usize, &[u8]) -> usize) {
+        let mut place = 0;
+        for _ in 0..self.count {
+            place = write(black_box(self.segment), place, black_box(&self.record));
+        }
+        assert_eq!(place, self.end, "a record was not written");
+    }
+
+    /// Reads all records by `read`, which hands back the place after one.
+    fn read(&mut self, read: impl Fn(&[u8], usize, &mut [u8]) -> usize) {
+        let mut place = 0;
+        for _ in 0..self.count {
+            place = read(black_box(self.segment), place, black_box(&mut self.buffer));
+        }
+        assert_eq!(place, self.end, "a record was not read");
+    }
+}
+
+fn bench_write(full: &mut Full) -> Rounds<4> {
+    let table = ffi::table().expect("nothing is written beside the table");
+    time(
+        ROUNDS,
+        full.count,
+        full,
+        [
+            &|full| full.write(plain_write),
+            &|full| full.write(|segment, place, record| lent_write(&table, segment, place, record)),
+            &|full| full.write(second_write),
+            &|full| full.write(hardware_write),
+        ],
+    )
+}
+
+fn bench_read(full: &mut Full) -> Rounds<4> {
+    let table = ffi::table().expect("nothing is written beside the table");
+    time(
+        ROUNDS,
+        full.count,
+        full,
+        [
+            &|full| full.read(plain_read),
+            &|full| full.read(|segment, place, buffer| lent_read(&table, segment, place, buffer)),
+            &|full| full.read(second_read),
+            &|full| full.read(hardware_read),
+        ],
+    )
+}
+
+// ---- The place for the next write, by each contender ----
+
+fn plain_write(segment: &mut [u8], place: usize, record: &[u8]) -> usize {
+    let mut out = [0; 2];
+    bare::write(segment, place, record, &mut out);
+    out[0] as usize
+}
+
+fn lent_write(table: &Table, segment: &mut [u8], place: usize, record: &[u8]) -> usize {
+    let mut out = [0; 2];
+    bare::write_with_table(table, segment, place, record, &mut out);
+    out[0] as usize
+}
+
+fn second_write(segment: &mut [u8], place: usize, record: &[u8]) -> usize {
+    segment::write(segment, place, record).expect("the records fit")
+}
+
+fn hardware_write(segment: &mut [u8], place: usize, record: &[u8]) -> usize {
+    segment::write_with(&hardware::checksum, segment, place, record).expect("the records fit")
+}
+
+// ---- The place after the record that was read, by each contender ----
+
+fn plain_read(segment: &[u8], place: usize, buffer: &mut [u8]) -> usize {
+    let mut out = [0; 3];
+    bare::read(segment, place, buffer, &mut out);
+    out[2] as usize
+}
+
+fn lent_read(table: &Table, segment: &[u8], place: usize, buffer: &mut [u8]) -> usize {
+    let mut out = [0; 3];
+    bare::read_with_table(table, segment, place, buffer, &mut out);
+    out[2] as usize
+}
+
+fn second_read(segment: &[u8], place: usize, buffer: &mut [u8]) -> usize {
+    after(segment::read(segment, place, buffer))
+}
+
+fn hardware_read(segment: &[u8], place: usize, buffer: &mut [u8]) -> usize {
+    after(segment::read_with(
+        &hardware::checksum,
+        segment,
+        place,
+        buffer,
+    ))
+}
+
+fn after(reading: Result<Reading, Refusal>) -> usize {
+    match reading {
+        Ok(Reading::Record(record)) => record.after,
+        other => panic!("no record: {other:?}"),
+    }
+}

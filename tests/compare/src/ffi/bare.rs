@@ -1,0 +1,89 @@
+//! The calls as a C program makes them, for timing: `out` is the caller's, without guards, and no
+//! pointer is null.
+
+use super::bodies::{
+    depot_wal_add_sample, depot_wal_body_check, depot_wal_body_start, depot_wal_entry_at,
+};
+use super::*;
+use reference::body::{Sample, State};
+
+// ---- Checksums ----
+
+#[inline]
+pub fn crc32c(data: &[u8]) -> u32 {
+    unsafe { depot_wal_crc32c(data.as_ptr(), data.len()) }
+}
+
+#[inline]
+pub fn crc32c_with_table(table: &Table, data: &[u8]) -> u32 {
+    unsafe { depot_wal_crc32c_with_table(table.as_ptr(), data.as_ptr(), data.len()) }
+}
+
+// ---- Segments ----
+
+#[inline]
+pub fn write(segment: &mut [u8], place: usize, record: &[u8], out: &mut [u64; 2]) -> u32 {
+    let (length, bytes) = (segment.len(), segment.as_mut_ptr());
+    let (data, data_len) = (record.as_ptr(), record.len());
+    unsafe { depot_wal_write(bytes, length, place, data, data_len, out.as_mut_ptr()) }
+}
+
+#[inline]
+pub fn read(segment: &[u8], place: usize, buffer: &mut [u8], out: &mut [u64; 3]) -> u32 {
+    let (length, bytes) = (segment.len(), segment.as_ptr());
+    let (room, room_len) = (buffer.as_mut_ptr(), buffer.len());
+    unsafe { depot_wal_read(bytes, length, place, room, room_len, out.as_mut_ptr()) }
+}
+
+#[inline]
+pub fn write_with_table(
+    table: &Table,
+    segment: &mut [u8],
+    place: usize,
+    record: &[u8],
+    out: &mut [u64; 2],
+) -> u32 {
+    let (length, bytes) = (segment.len(), segment.as_mut_ptr());
+    let (data, data_len) = (record.as_ptr(), record.len());
+    let (table, out) = (table.as_ptr(), out.as_mut_ptr());
+    unsafe { depot_wal_write_with_table(table, bytes, length, place, data, data_len, out) }
+}
+
+#[inline]
+pub fn read_with_table(
+    table: &Table,
+    segment: &[u8],
+    place: usize,
+    buffer: &mut [u8],
+    out: &mut [u64; 3],
+) -> u32 {
+    let (length, bytes) = (segment.len(), segment.as_ptr());
+    let (room, room_len) = (buffer.as_mut_ptr(), buffer.len());
+    let (table, out) = (table.as_ptr(), out.as_mut_ptr());
+    unsafe { depot_wal_read_with_table(table, bytes, length, place, room, room_len, out) }
+}
+
+// ---- Bodies ----
+
+#[inline]
+pub fn body_start(buffer: &mut [u8], kind: u8, out: &mut [u64; 2]) -> u32 {
+    unsafe { depot_wal_body_start(buffer.as_mut_ptr(), buffer.len(), kind, out.as_mut_ptr()) }
+}
+
+#[inline]
+pub fn add_sample(buffer: &mut [u8], state: State, row: &Sample, out: &mut [u64; 2]) -> u32 {
+    let State { kind, used } = state;
+    let (length, bytes) = (buffer.len(), buffer.as_mut_ptr());
+    let (id, time, out) = (row.id.0, row.time.0, out.as_mut_ptr());
+    unsafe { depot_wal_add_sample(bytes, length, kind, used, id, time, row.bits, out) }
+}
+
+#[inline]
+pub fn body_check(body: &[u8], out: &mut [u64; 1]) -> u32 {
+    unsafe { depot_wal_body_check(body.as_ptr(), body.len(), out.as_mut_ptr()) }
+}
+
+#[inline]
+pub fn entry_at(body: &[u8], place: usize, out: &mut [u64; 8]) -> u32 {
+    unsafe { depot_wal_entry_at(body.as_ptr(), body.len(), place, out.as_mut_ptr()) }
+}
