@@ -8,9 +8,12 @@ use std::hint::black_box;
 
 /// Bytes summed at once.
 const LENGTHS: [usize; 5] = [20, 37, 200, 4_096, 32_761];
-const ROUNDS: usize = 41;
+/// Sweeps over all lengths, and rounds of a length in each: a slow moment of the machine then falls
+/// on all lengths alike.
+const SWEEPS: usize = 21;
+const ROUNDS: usize = 5;
 /// Bytes that a round goes over, more or less.
-const ROUND_BYTES: usize = 1 << 20;
+const ROUND_BYTES: usize = 1 << 21;
 
 const HEAD: &str = "\
 buffers: data and table are warm; no call waits for the sum of the one before
@@ -23,9 +26,17 @@ tables, and from 512 bytes on folds by a sparse multiple of the polynomial in 16
 
 /// Prints a line for each length and hands back the summary.
 pub fn bench() -> String {
-    println!("\nchecksum: ns per call, {ROUNDS} rounds\n{HEAD}");
-    let rows = LENGTHS.map(|length| {
-        let rounds = bench_length(length);
+    println!(
+        "\nchecksum: ns per call, {} rounds\n{HEAD}",
+        SWEEPS * ROUNDS
+    );
+    let mut rows = LENGTHS.map(|length| (length, Rounds::none()));
+    for _ in 0..SWEEPS {
+        for (length, rounds) in &mut rows {
+            rounds.extend(bench_length(*length));
+        }
+    }
+    let rows = rows.map(|(length, rounds)| {
         print_row(length, &rounds);
         rounds.summary(length)
     });

@@ -32,6 +32,18 @@ pub fn time<S: ?Sized, const N: usize>(
 }
 
 impl<const N: usize> Rounds<N> {
+    /// No round yet.
+    pub const fn none() -> Self {
+        Rounds([const { Vec::new() }; N])
+    }
+
+    /// Adds later rounds.
+    pub fn extend(&mut self, later: Self) {
+        for (times, more) in self.0.iter_mut().zip(later.0) {
+            times.extend(more);
+        }
+    }
+
     /// The median time of one contender.
     pub fn median(&self, one: usize) -> f64 {
         median(self.0[one].clone())
