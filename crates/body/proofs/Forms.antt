@@ -1,5 +1,5 @@
 -- What an answer in the code's form says of the definition's reading: the value and the place after it, or the fault.
-use mathlib.Core.Path.{_≡_, refl}
+use mathlib.Core.Path.{_≡_}
 use mathlib.Core.List.{List}
 use Prim.Native.Nat.{ℕ}
 use native.Mathlib.Omega.{arith}

@@ -1,11 +1,11 @@
 -- Strings in a row, the places of entries, and the list of entries, one step at a time.
-use mathlib.Core.Path.{_≡_, refl, sym, ap, _∙_, subst}
+use mathlib.Core.Path.{_≡_, refl, sym, ap, _∙_}
 use mathlib.Core.Bool.{Bool, true, false, cond}
-use mathlib.Core.List.{List, [], _∷_}
+use mathlib.Core.List.{List, _∷_}
 use Prim.Native.Nat.{ℕ, zero, suc, _+_, _*_, _-_, _^_, _≤_, _<_}
 use native.Mathlib.Omega.{arith}
 use native.Mathlib.Nat.{add-zero}
-use borrow.Author.Tests.{lt-ltb, eq-eqb, ne-eqb, eqb-true, eqb-false}
+use borrow.Author.Tests.{lt-ltb, ne-eqb}
 use lib.IntN.{ℤ}
 use lib.Signed.{mag}
 use lib.Dec.{eqb}
@@ -21,12 +21,11 @@ use Rattle.body_format.specs.declared.CheckAnswer.{CheckAnswer}
 use Rattle.body_format.specs.declared.CheckAnswer.the-variants.{Entries, Refused as CheckRefused}
 use Rattle.body_format.specs.declared.EntryAnswer.{EntryAnswer}
 use Rattle.body_format.specs.declared.EntryAnswer.the-variants.{Found, End, Refused}
-use Rattle.body_format.specs.declared.EntryView.{EntryView}
 use Rattle.body_format.specs.Fields.{Field, got, fault, andThen, Text, uvarintAt, varintOf, varintAt, textAt, textsAt, textListAt, fixedAt}
 use Rattle.body_format.specs.Entries.{Kind, Entry, seriesEntry, sampleEntry, tombstoneEntry, exemplarEntry, metadataEntry, Placed, hasRows, entryAt, entriesFrom, firstAt, entries, known}
-use Rattle.body_format.specs.Reading.{checkFields, checkKnown, checkBody, badPlace, view, answerEntry, entryOrEnd, firstEntry, answerString}
+use Rattle.body_format.specs.Reading.{checkFields, checkKnown, checkBody, view, answerEntry, entryOrEnd, firstEntry, answerString}
 use Rattle.body_format.specs.Laws.Fields.{uvarint-got, text-got}
-use Rattle.body_format.specs.Laws.Bounds.{Ahead, Every, every-then, of-got, uvarint-ahead, fixed-ahead, text-ahead, texts-ahead, entry-ahead}
+use Rattle.body_format.specs.Laws.Bounds.{Every, every-then, of-got, uvarint-ahead, fixed-ahead, texts-ahead, entry-ahead}
 use Rattle.body_format.specs.declared.StringAnswer.the-variants.{Found as StringFound, Refused as StringRefused}
 use Rattle.wal_types.specs.Terms.{offset}
 use Rattle.body.specs.declared.strings.TextRead.the-variants as text
@@ -34,7 +33,7 @@ use Rattle.body.specs.declared.strings.TextListRead.{TextListRead}
 use Rattle.body.specs.declared.strings.TextListRead.the-variants as list
 use Rattle.body.specs.declared.fields.Place.{Place}
 use Rattle.body.specs.declared.fields.Place.the-variants.{At, Fault}
-use Rattle.body.specs.Answers.{textRead, tally, textsPlace, textListRead, placeRead, misplaced}
+use Rattle.body.specs.Answers.{textRead, tally, textsPlace, textListRead, placeRead}
 
 -- ---- numbers
 
@@ -160,11 +159,6 @@ list-all s p {n} {q} h = rw h (go (textsAt (2 * n) s q))
     go (fault why) = refl
 
 -- ---- entries
-
--- the code's test of a place is the definition's
-pub misplaced-is : (k : Kind) (s : List ℕ) (p : ℕ) {rows r : Bool} → rows ≡ hasRows k → r ≡ misplaced rows (length s) p → badPlace k s p ≡ r
-unfolding badPlace misplaced
-misplaced-is k s p e f = sym (f ∙ ap (λ (t : Bool). misplaced t (length s) p) e)
 
 abbrev counted : ℕ → Field (List Entry) → CheckAnswer
 counted c (got es p) = Entries (c + length es)

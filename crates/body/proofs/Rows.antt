@@ -1,7 +1,7 @@
 -- What each entry's fields come to, fault by fault, in the code's forms.
-use mathlib.Core.Path.{_≡_, refl, sym, ap, ap₂, _∙_}
+use mathlib.Core.Path.{_≡_, ap, ap₂, _∙_}
 use mathlib.Core.List.{List}
-use Prim.Native.Nat.{ℕ, _+_}
+use Prim.Native.Nat.{ℕ}
 use lib.IntN.{ℤ, pos}
 use lib.ListN.{length, drop}
 use Rattle.varint.specs.Fixed.{readBe8}
@@ -10,15 +10,13 @@ use Rattle.wal_types.specs.declared.SeriesId.{SeriesId}
 use Rattle.wal_types.specs.declared.Timestamp.{Timestamp}
 use Rattle.wal_types.specs.Terms.{offset, seriesId, timestamp}
 use Rattle.wal_types.specs.Deltas.{plus, fromBits}
-use Rattle.body_format.specs.declared.EntryAnswer.{EntryAnswer}
 use Rattle.body_format.specs.declared.EntryAnswer.the-variants.{Found, Refused}
-use Rattle.body_format.specs.Fields.{Field, got, fault, Texts, fixedAt, uvarintAt, varintAt, byteAt, textListAt}
-use Rattle.body_format.specs.Entries.{Row, Entry, seriesEntry, sampleEntry, tombstoneEntry, exemplarEntry, metadataEntry, rowAt, seriesAt, sampleAt, tombstoneAt, exemplarAt, metadataAt}
-use Rattle.body_format.specs.Reading.{view, answerEntry}
+use Rattle.body_format.specs.Fields.{got, fault, Texts, fixedAt, uvarintAt, varintAt, byteAt, textListAt}
+use Rattle.body_format.specs.Entries.{Row, rowAt, seriesAt, sampleAt, tombstoneAt, exemplarAt, metadataAt}
+use Rattle.body_format.specs.Reading.{answerEntry}
 use Rattle.body.specs.declared.entries.Base.{Base}
-use Rattle.body.specs.declared.entries.RowRead.{RowRead}
 use Rattle.body.specs.declared.entries.RowRead.the-variants as row
-use Rattle.body.specs.Answers.{baseIn, rowRead}
+use Rattle.body.specs.Answers.{base, baseIn, rowRead}
 
 module _ (s : List ℕ) (p : ℕ) where
   -- a row
@@ -35,12 +33,12 @@ module _ (s : List ℕ) (p : ℕ) where
   unfolding rowAt
   row-3 h i j = rw (h, i, j)
 
-  pub row-all : {d q e r v next sum : ℕ} (base : Base) (id : SeriesId) (time : Timestamp)
+  pub row-all : {d q e r v next sum first : ℕ} {from : SeriesId} (id : SeriesId) (time : Timestamp)
       → uvarintAt s p ≡ got d q → uvarintAt s q ≡ got e r → fixedAt s r ≡ got v next
-      → base ≡ baseIn s → id .0 ≡ plus (base .id .0) d → sum ≡ plus (base .time) e → time .0 ≡ fromBits sum
+      → base from first ≡ baseIn s → id .0 ≡ plus (from .0) d → sum ≡ plus first e → time .0 ≡ fromBits sum
       → row.Got id time v next ≡ rowRead (rowAt s p)
   unfolding rowAt
-  row-all {d} {q} {e} {r} {v} {next} {sum} base id time h i j b x y z =
+  row-all {d} {q} {e} {r} {v} {next} id time h i j b x y z =
       let a : id .0 ≡ plus (readBe8 (drop 1 s)) d = x ∙ ap (λ (w : Base). plus (w .id .0) d) b in
       let t : time .0 ≡ fromBits (plus (readBe8 (drop 9 s)) e) = z ∙ ap fromBits (y ∙ ap (λ (w : Base). plus (w .time) e) b) in
       rw (h, i, j) (ap₂ (λ (m : ℕ) (n : ℤ). row.Got (seriesId m) (timestamp n) v next) a t)

@@ -6,18 +6,15 @@ use lib.ListN.{length}
 use native.Mathlib.Omega.{arith}
 use Rattle.wal_types.specs.declared.Refusal.{Refusal}
 use Rattle.wal_types.specs.declared.Refusal.the-variants.{UnknownType}
-use Rattle.body_format.specs.declared.CheckAnswer.{CheckAnswer}
 use Rattle.body_format.specs.declared.CheckAnswer.the-variants.{Refused as CheckRefused}
-use Rattle.body_format.specs.declared.EntryAnswer.{EntryAnswer}
 use Rattle.body_format.specs.declared.EntryAnswer.the-variants.{Refused as EntryRefused}
-use Rattle.body_format.specs.declared.StringAnswer.{StringAnswer}
 use Rattle.body_format.specs.declared.StringAnswer.the-variants.{Refused as StringRefused}
 use Rattle.body_format.specs.Entries.{Kind, series, samples, tombstones, exemplars, metadata, Known, known, unknown, kindOf}
 use Rattle.body_format.specs.Reading.{checkKnown, checkBody, entryKnown, readEntry, stringKnown, readString}
 use Rattle.body.specs.declared.kinds.BodyKind.{BodyKind}
 use Rattle.body.specs.declared.kinds.TypeRead.{TypeRead}
 use Rattle.body.specs.declared.kinds.TypeRead.the-variants as type
-use Rattle.body.specs.Answers.{kindIn, bodyKind, typeFound, typeRead}
+use Rattle.body.specs.Answers.{kindIn, typeFound, typeRead}
 
 -- an answer by the type that was found
 abbrev pub byType : {A : Type 0} → (Refusal → A) → (Kind → A) → TypeRead → A
@@ -68,16 +65,3 @@ pub known-some : (s : List ℕ) (r : TypeRead) {k : BodyKind} → r ≡ typeRead
 unfolding typeRead
 known-some [] r e g = let z : _≡_ {A = ℕ} 0 1 = cc in absurd (omega arith)
 known-some (b ∷ s) r e g = omega arith
-
--- what a byte's type in the code's form says of the definition's
-pub type-known : (n : Known) (r : TypeRead) {k : BodyKind} → r ≡ typeFound n → r ≡ type.Known k → n ≡ known (kindIn k)
-type-known (known series) r {k} e g = let z : k ≡ bodyKind series = cc in rw z
-type-known (known samples) r {k} e g = let z : k ≡ bodyKind samples = cc in rw z
-type-known (known tombstones) r {k} e g = let z : k ≡ bodyKind tombstones = cc in rw z
-type-known (known exemplars) r {k} e g = let z : k ≡ bodyKind exemplars = cc in rw z
-type-known (known metadata) r {k} e g = let z : k ≡ bodyKind metadata = cc in rw z
-type-known unknown r e g = let z : _≡_ {A = ℕ} 0 1 = cc in absurd (omega arith)
-
-pub type-unknown : (n : Known) (r : TypeRead) {why : Refusal} → r ≡ typeFound n → r ≡ type.Refused why → (n ≡ unknown) × (why ≡ UnknownType)
-type-unknown (known k) r e g = let z : _≡_ {A = ℕ} 0 1 = cc in absurd (omega arith)
-type-unknown unknown r e g = (refl, cc)

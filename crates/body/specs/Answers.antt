@@ -1,13 +1,11 @@
 -- The definitions' readings in the forms that the code hands from one function to the next: where a string's bytes do not matter, they are left out.
 -- Assumes nothing.
-use mathlib.Core.Bool.{Bool, _||_, _&&_}
 use mathlib.Core.List.{List, [], _∷_}
 use Prim.Native.Nat.{ℕ, _+_}
 use lib.IntN.{ℤ}
-use lib.Dec.{ltb, leb, eqb}
 use lib.ListN.{length, drop}
-use Rattle.wal_types.specs.declared.Refusal.{Refusal}
 use Rattle.wal_types.specs.declared.Refusal.the-variants.{UnknownType, EmptyBody}
+use Rattle.wal_types.specs.declared.SeriesId.{SeriesId}
 use Rattle.wal_types.specs.Terms.{seriesId, timestamp}
 use Rattle.varint.specs.Fixed.{readBe8}
 use Rattle.body_format.specs.Fields.{Field, got, fault, Text, Texts}
@@ -85,9 +83,12 @@ textListRead (fault why) = list.Fault why
 
 -- ---- rows and places
 
+abbrev pub base : SeriesId → ℕ → Base
+base id time = record { id = id; time = time }
+
 -- bytes 1 to 16
 abbrev pub baseIn : List ℕ → Base
-baseIn s = record { id = seriesId (readBe8 (drop 1 s)); time = readBe8 (drop 9 s) }
+baseIn s = base (seriesId (readBe8 (drop 1 s))) (readBe8 (drop 9 s))
 
 abbrev pub rowRead : Field Row → RowRead
 rowRead (got r next) = row.Got (seriesId (r .id)) (timestamp (r .time)) (r .bits) next
@@ -97,7 +98,3 @@ rowRead (fault why) = row.Fault why
 abbrev pub placeRead : Field ℕ → Place
 placeRead (got p next) = At p
 placeRead (fault why) = Fault why
-
--- place 0, past `size` bytes, or 2 to 16 where there are rows
-unfoldable pub misplaced : Bool → ℕ → ℕ → Bool
-misplaced rows size p = eqb p 0 || (ltb size p || (rows && (leb 2 p && leb p 16)))

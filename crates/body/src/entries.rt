@@ -19,7 +19,7 @@ use wal_types::time_of_bits;
 ghost use mathlib.Core.Path.{_≡_};
 ghost use Rattle.body_format.specs.Entries.{rowAt, seriesAt, sampleAt, tombstoneAt, exemplarAt, metadataAt};
 ghost use Rattle.body_format.specs.Reading.{answerEntry, entryOrEnd};
-ghost use Rattle.body.specs.Answers.{kindIn, baseIn, rowRead};
+ghost use Rattle.body.specs.Answers.{kindIn, base, baseIn, rowRead};
 
 // The first id, and the 64 bits of the first timestamp.
 pub(crate) struct Base {
@@ -50,9 +50,10 @@ pub(crate) fn base_of(body: &[u8]) -> Base
     }
 }
 
-// What types 2 and 4 share: id delta, timestamp delta, value.
-fn row_at(body: &[u8], base: Base, at: usize) -> RowRead
-    requires { ⌜ base ≡ baseIn (now body) ⌝ }
+// What types 2 and 4 share: id delta, timestamp delta, value. The first id and the first time come as two numbers, not as a Base: that would be
+// copied by one wide load right behind two narrow stores, which stalls.
+fn row_at(body: &[u8], first_id: SeriesId, first_time: u64, at: usize) -> RowRead
+    requires { ⌜ base «first_id» «first_time» ≡ baseIn (now body) ⌝ }
     ensures { λ r. ⌜ r ≡ rowRead (rowAt (now (body .entry)) at) ⌝ }
 {
     match uvarint_at(body, at) {
@@ -65,9 +66,9 @@ fn row_at(body: &[u8], base: Base, at: usize) -> RowRead
                 next: third,
             } => match fixed_at(body, third) {
                 NumberRead::Got { value: bits, next } => {
-                    let sum = std::num::wrapping_add_u64(base.time, from_time);
+                    let sum = std::num::wrapping_add_u64(first_time, from_time);
                     RowRead::Got {
-                        id: id_plus(base.id, from_id),
+                        id: id_plus(first_id, from_id),
                         time: time_of_bits(sum),
                         bits,
                         next,
@@ -107,11 +108,11 @@ fn series_at(body: &[u8], at: usize) -> EntryAnswer
 }
 
 // Type 2: a row.
-fn sample_at(body: &[u8], base: Base, at: usize) -> EntryAnswer
-    requires { ⌜ base ≡ baseIn (now body) ⌝ }
+fn sample_at(body: &[u8], first_id: SeriesId, first_time: u64, at: usize) -> EntryAnswer
+    requires { ⌜ base «first_id» «first_time» ≡ baseIn (now body) ⌝ }
     ensures { λ r. ⌜ r ≡ answerEntry (sampleAt (now (body .entry)) at) ⌝ }
 {
-    match row_at(body, base, at) {
+    match row_at(body, first_id, first_time, at) {
         RowRead::Got {
             id,
             time,
@@ -163,11 +164,11 @@ fn tombstone_at(body: &[u8], at: usize) -> EntryAnswer
 }
 
 // Type 4: a row, and its labels.
-fn exemplar_at(body: &[u8], base: Base, at: usize) -> EntryAnswer
-    requires { ⌜ base ≡ baseIn (now body) ⌝ }
+fn exemplar_at(body: &[u8], first_id: SeriesId, first_time: u64, at: usize) -> EntryAnswer
+    requires { ⌜ base «first_id» «first_time» ≡ baseIn (now body) ⌝ }
     ensures { λ r. ⌜ r ≡ answerEntry (exemplarAt (now (body .entry)) at) ⌝ }
 {
-    match row_at(body, base, at) {
+    match row_at(body, first_id, first_time, at) {
         RowRead::Got {
             id,
             time,
@@ -222,8 +223,14 @@ fn metadata_at(body: &[u8], at: usize) -> EntryAnswer
 }
 
 // The entry at a place, or the plain end at the body's end.
-pub(crate) fn entry_or_end(body: &[u8], kind: BodyKind, base: Base, at: usize) -> EntryAnswer
-    requires { ⌜ base ≡ baseIn (now body) ⌝ }
+pub(crate) fn entry_or_end(
+    body: &[u8],
+    kind: BodyKind,
+    first_id: SeriesId,
+    first_time: u64,
+    at: usize,
+) -> EntryAnswer
+    requires { ⌜ base «first_id» «first_time» ≡ baseIn (now body) ⌝ }
     ensures { λ r. ⌜ r ≡ entryOrEnd (kindIn kind) (now (body .entry)) at ⌝ }
 {
     if at == body.len() {
@@ -231,9 +238,9 @@ pub(crate) fn entry_or_end(body: &[u8], kind: BodyKind, base: Base, at: usize) -
     }
     match kind {
         BodyKind::Series => series_at(body, at),
-        BodyKind::Samples => sample_at(body, base, at),
+        BodyKind::Samples => sample_at(body, first_id, first_time, at),
         BodyKind::Tombstones => tombstone_at(body, at),
-        BodyKind::Exemplars => exemplar_at(body, base, at),
+        BodyKind::Exemplars => exemplar_at(body, first_id, first_time, at),
         BodyKind::Metadata => metadata_at(body, at),
     }
 }

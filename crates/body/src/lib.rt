@@ -1,35 +1,19 @@
-// A record body in a lent slice: built entry by entry, checked whole, and read entry by entry and string by string. What the calls
-// answer, and every lent byte afterwards, is what the definitions of the crate body_format say.
-mod builder;
+// A record body in a lent slice: checked whole, and read entry by entry and string by string. What the calls answer is what the definitions
+// of the crate body_format say.
 mod entries;
 mod fields;
 mod kinds;
-mod lent;
 mod places;
 mod strings;
 
 use body_format::CheckAnswer;
 use body_format::EntryAnswer;
 use body_format::StringAnswer;
-use builder::Gate;
-use builder::admit;
-use builder::deltas_of;
-use builder::put_metadata;
-use builder::put_row;
-use builder::put_series;
-use builder::put_tombstone;
-use builder::row_size;
-use builder::tombstone_size;
 use entries::base_of;
 use entries::entry_or_end;
 use fields::Place;
 use kinds::TypeRead;
 use kinds::body_type;
-use kinds::has_rows;
-use kinds::type_of;
-use lent::list_is_bad;
-use lent::list_size;
-use lent::put_list;
 use places::count_entries;
 use places::entries_begin;
 use places::first_entry;
@@ -38,174 +22,8 @@ use strings::TextRead;
 use strings::text_at;
 use wal_types::Offset;
 use wal_types::Refusal;
-use wal_types::SeriesId;
-use wal_types::Timestamp;
 ghost use mathlib.Core.Path.{_≡_};
 ghost use Rattle.body_format.specs.Reading.{checkBody, readEntry, readString};
-ghost use Rattle.body_format.specs.Calls.{starter, builder, addSeries, addSample, addTombstone, addExemplar, addMetadata};
-ghost use Rattle.body.specs.Sizes.{addedOf};
-
-// The state of a body that is being built in a lent buffer: its type, and the bytes used.
-pub struct Body {
-    pub kind: u8,
-    pub used: Offset,
-}
-
-// What starting a body or adding an entry answers: the next state, or why it is refused. A refusal changes no byte.
-pub enum Added {
-    Next(Body),
-    Refused(Refusal),
-}
-
-impl Body {
-    // A body of the type `kind`, with no entry yet.
-    pub fn start(buffer: &mut [u8], kind: u8) -> Added
-        ensures answer { λ r. ⌜ r ≡ addedOf kind (starter (now (buffer .entry)) kind .outcome) ⌝ }
-        ensures bytes { λ _. ⌜ now (buffer .exit) ≡ starter (now (buffer .entry)) kind .buffer ⌝ }
-    {
-        match type_of(kind) {
-            TypeRead::Known(_) => {
-                if buffer.len() == 0 {
-                    return Added::Refused(Refusal::NoRoom(Offset(0)));
-                }
-                buffer[0] = kind;
-                Added::Next(Body {
-                    kind,
-                    used: Offset(1),
-                })
-            }
-            TypeRead::Refused(why) => Added::Refused(why),
-        }
-    }
-
-    // One series more: its id, and its labels as pairs of strings.
-    pub fn add_series(
-        mut self,
-        buffer: &mut [u8],
-        id: SeriesId,
-        strings: &[u8],
-        lengths: &[u64],
-    ) -> Added
-        ensures answer { λ r. ⌜ r ≡ addedOf (self .kind) (builder (now (buffer .entry)) (self .kind) (self .used .0) (addSeries (id .0) (now (strings .entry)) (now (lengths .entry))) .outcome) ⌝ }
-        ensures bytes { λ _. ⌜ now (buffer .exit) ≡ builder (now (buffer .entry)) (self .kind) (self .used .0) (addSeries (id .0) (now (strings .entry)) (now (lengths .entry))) .buffer ⌝ }
-    {
-        let at = self.used.0;
-        let bad = list_is_bad(strings, lengths);
-        let list = list_size(strings, lengths);
-        let size = 8 + list;
-        match admit(&*buffer, self.kind, at, 1, bad, size) {
-            Gate::Open => {
-                let next = put_series(buffer, at, id, strings, lengths);
-                self.used.0 = next;
-                Added::Next(self)
-            }
-            Gate::Shut(why) => Added::Refused(why),
-        }
-    }
-
-    // One sample more.
-    pub fn add_sample(
-        mut self,
-        buffer: &mut [u8],
-        id: SeriesId,
-        time: Timestamp,
-        bits: u64,
-    ) -> Added
-        ensures answer { λ r. ⌜ r ≡ addedOf (self .kind) (builder (now (buffer .entry)) (self .kind) (self .used .0) (addSample (id .0) (time .0) bits) .outcome) ⌝ }
-        ensures bytes { λ _. ⌜ now (buffer .exit) ≡ builder (now (buffer .entry)) (self .kind) (self .used .0) (addSample (id .0) (time .0) bits) .buffer ⌝ }
-    {
-        let at = self.used.0;
-        let row = deltas_of(&*buffer, id, time);
-        let size = row_size(at, row);
-        match admit(&*buffer, self.kind, at, 2, false, size) {
-            Gate::Open => {
-                let next = put_row(buffer, at, id, time, row, bits);
-                self.used.0 = next;
-                Added::Next(self)
-            }
-            Gate::Shut(why) => Added::Refused(why),
-        }
-    }
-
-    // One tombstone more.
-    pub fn add_tombstone(
-        mut self,
-        buffer: &mut [u8],
-        id: SeriesId,
-        min: Timestamp,
-        max: Timestamp,
-    ) -> Added
-        ensures answer { λ r. ⌜ r ≡ addedOf (self .kind) (builder (now (buffer .entry)) (self .kind) (self .used .0) (addTombstone (id .0) (min .0) (max .0)) .outcome) ⌝ }
-        ensures bytes { λ _. ⌜ now (buffer .exit) ≡ builder (now (buffer .entry)) (self .kind) (self .used .0) (addTombstone (id .0) (min .0) (max .0)) .buffer ⌝ }
-    {
-        let at = self.used.0;
-        let size = tombstone_size(min, max);
-        match admit(&*buffer, self.kind, at, 3, false, size) {
-            Gate::Open => {
-                let next = put_tombstone(buffer, at, id, min, max);
-                self.used.0 = next;
-                Added::Next(self)
-            }
-            Gate::Shut(why) => Added::Refused(why),
-        }
-    }
-
-    // One exemplar more: a row, and its labels.
-    pub fn add_exemplar(
-        mut self,
-        buffer: &mut [u8],
-        id: SeriesId,
-        time: Timestamp,
-        bits: u64,
-        strings: &[u8],
-        lengths: &[u64],
-    ) -> Added
-        ensures answer { λ r. ⌜ r ≡ addedOf (self .kind) (builder (now (buffer .entry)) (self .kind) (self .used .0) (addExemplar (id .0) (time .0) bits (now (strings .entry)) (now (lengths .entry))) .outcome) ⌝ }
-        ensures bytes { λ _. ⌜ now (buffer .exit) ≡ builder (now (buffer .entry)) (self .kind) (self .used .0) (addExemplar (id .0) (time .0) bits (now (strings .entry)) (now (lengths .entry))) .buffer ⌝ }
-    {
-        let at = self.used.0;
-        let bad = list_is_bad(strings, lengths);
-        let row = deltas_of(&*buffer, id, time);
-        let list = list_size(strings, lengths);
-        let size = row_size(at, row) + list;
-        match admit(&*buffer, self.kind, at, 4, bad, size) {
-            Gate::Open => {
-                let labels = put_row(buffer, at, id, time, row, bits);
-                let next = put_list(buffer, labels, strings, lengths);
-                self.used.0 = next;
-                Added::Next(self)
-            }
-            Gate::Shut(why) => Added::Refused(why),
-        }
-    }
-
-    // One metadata entry more: its id, its metric type, and its name and text strings.
-    pub fn add_metadata(
-        mut self,
-        buffer: &mut [u8],
-        id: SeriesId,
-        metric_type: u8,
-        strings: &[u8],
-        lengths: &[u64],
-    ) -> Added
-        ensures answer { λ r. ⌜ r ≡ addedOf (self .kind) (builder (now (buffer .entry)) (self .kind) (self .used .0) (addMetadata (id .0) «metric_type» (now (strings .entry)) (now (lengths .entry))) .outcome) ⌝ }
-        ensures bytes { λ _. ⌜ now (buffer .exit) ≡ builder (now (buffer .entry)) (self .kind) (self .used .0) (addMetadata (id .0) «metric_type» (now (strings .entry)) (now (lengths .entry))) .buffer ⌝ }
-    {
-        let at = self.used.0;
-        let bad = list_is_bad(strings, lengths);
-        let list = list_size(strings, lengths);
-        let head = varint::uvarint_len(id.0) + 1;
-        let size = head + list;
-        match admit(&*buffer, self.kind, at, 6, bad, size) {
-            Gate::Open => {
-                let next = put_metadata(buffer, at, id, metric_type, strings, lengths);
-                self.used.0 = next;
-                Added::Next(self)
-            }
-            Gate::Shut(why) => Added::Refused(why),
-        }
-    }
-}
 
 // How many entries a body has, or why it is refused.
 pub fn check(body: &[u8]) -> CheckAnswer
@@ -227,13 +45,14 @@ pub fn entry_at(body: &[u8], place: Offset) -> EntryAnswer
     let at = place.0;
     match body_type(body) {
         TypeRead::Known(kind) => {
-            if is_misplaced(has_rows(kind), body.len(), at) {
+            if is_misplaced(body, kind, at) {
                 return EntryAnswer::Refused(Refusal::BadPlace);
             }
             if at == 1 {
                 return first_entry(body, kind);
             }
-            entry_or_end(body, kind, base_of(body), at)
+            let base = base_of(body);
+            entry_or_end(body, kind, base.id, base.time, at)
         }
         TypeRead::Refused(why) => EntryAnswer::Refused(why),
     }

@@ -9,25 +9,23 @@ use crate::kinds::has_rows;
 use body_format::CheckAnswer;
 use body_format::EntryAnswer;
 ghost use mathlib.Core.Path.{_≡_};
-ghost use mathlib.Core.Bool.{_||_, _&&_};
 ghost use Prim.Native.Nat.{_≤_, _<_};
-ghost use lib.Dec.{ltb, leb, eqb};
 ghost use lib.ListN.{length};
 ghost use Rattle.body_format.specs.Entries.{hasRows, firstAt, entriesFrom};
-ghost use Rattle.body_format.specs.Reading.{checkFields, firstEntry};
-ghost use Rattle.body.specs.Answers.{kindIn, placeRead, misplaced};
+ghost use Rattle.body_format.specs.Reading.{checkFields, badPlace, firstEntry};
+ghost use Rattle.body.specs.Answers.{kindIn, placeRead};
 
 // Place 0, past the bytes, or 2 to 16 where there are rows.
-pub(crate) fn is_misplaced(rows: bool, length: usize, at: usize) -> bool
-    ensures { λ r. ⌜ r ≡ misplaced rows length at ⌝ }
+pub(crate) fn is_misplaced(body: &[u8], kind: BodyKind, at: usize) -> bool
+    ensures { λ r. ⌜ r ≡ badPlace (kindIn kind) (now (body .entry)) at ⌝ }
 {
     if at == 0 {
         return true;
     }
-    if length < at {
+    if body.len() < at {
         return true;
     }
-    if !rows {
+    if !has_rows(kind) {
         return false;
     }
     if at < 2 {
@@ -60,7 +58,10 @@ pub(crate) fn first_entry(body: &[u8], kind: BodyKind) -> EntryAnswer
     ensures { λ r. ⌜ r ≡ firstEntry (kindIn kind) (now (body .entry)) (firstAt (hasRows (kindIn kind)) (now (body .entry))) ⌝ }
 {
     match entries_begin(body, kind) {
-        Place::At(first) => entry_or_end(body, kind, base_of(body), first),
+        Place::At(first) => {
+            let base = base_of(body);
+            entry_or_end(body, kind, base.id, base.time, first)
+        }
         Place::Fault(why) => EntryAnswer::Refused(why),
     }
 }
@@ -74,7 +75,7 @@ pub(crate) fn count_entries(body: &[u8], kind: BodyKind, first: usize) -> CheckA
     let mut at = first;
     let mut count: usize = 0;
     loop {
-        match entry_or_end(body, kind, base, at) {
+        match entry_or_end(body, kind, base.id, base.time, at) {
             EntryAnswer::Found(view) => {
                 at = view.next.0;
                 count += 1;

@@ -4,8 +4,8 @@ use mathlib.Core.List.{List, [], _∷_}
 use Prim.Native.Nat.{ℕ}
 use Rattle.wal_types.specs.Refusals.{numberOf, placeOf}
 use Rattle.wal_types.specs.Deltas.{toBits}
-use Rattle.body.specs.declared.Added.{Added}
-use Rattle.body.specs.declared.Added.the-variants.{Next, Refused}
+use Rattle.body_builder.specs.declared.Added.{Added}
+use Rattle.body_builder.specs.declared.Added.the-variants.{Next, Refused}
 use Rattle.body_format.specs.declared.CheckAnswer.{CheckAnswer}
 use Rattle.body_format.specs.declared.CheckAnswer.the-variants.{Entries, Refused as CheckRefused}
 use Rattle.body_format.specs.declared.EntryAnswer.{EntryAnswer}

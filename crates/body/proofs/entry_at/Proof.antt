@@ -12,7 +12,6 @@ use Rattle.body.specs.declared.kinds.TypeRead.{TypeRead}
 use Rattle.body.specs.declared.kinds.TypeRead.the-variants as type
 use Rattle.body.specs.Answers.{kindIn, typeRead}
 use Rattle.body.proofs.Types.{byType, entry-type}
-use Rattle.body.proofs.Reading.{misplaced-is}
 use Rattle.body.proofs.entry_at.Statement.{statement}
 use Rattle.body.proofs.entry_at.Tie as tie
 
@@ -20,17 +19,13 @@ known-entry : (s : List ℕ) (p : ℕ) {r : TypeRead} {k : BodyKind} → r ≡ t
 known-entry s p e g = entry-type s p ∙ ap (byType EntryRefused (λ k. entryKnown (known k) s p)) (sym e ∙ g)
 
 returns : tie.Need-returns
-returns c =
-    rw (
-      known-entry _ _ (c .before .before .before .before .before .before .body-type .ensures) (c .before .before .before .before .kind .given .1),
-      misplaced-is (kindIn (c .before .before .before .before .kind .given .0 .0)) (c .before .before .before .before .before .before .before .before .args .body .now) (c .before .before .before .before .before .before .before .before .args .place .0) (c .before .before .has-rows .ensures) (c .before .is-misplaced .ensures) ∙ c .if1 .taken,
-    )
+returns c = rw (known-entry _ _ (c .before .before .before .before .before .body-type .ensures) (c .before .before .before .kind .given .1), sym (c .before .is-misplaced .ensures) ∙ c .if1 .taken)
 
 returns-2 : tie.Need-returns-2
 returns-2 c =
     rw (
-      known-entry _ _ (c .before .before .before .before .before .before .before .before .body-type .ensures) (c .before .before .before .before .before .before .kind .given .1),
-      misplaced-is (kindIn (c .before .before .before .before .before .before .kind .given .0 .0)) (c .before .before .before .before .before .before .before .before .before .before .args .body .now) (c .before .before .before .before .before .before .before .before .before .before .args .place .0) (c .before .before .before .before .has-rows .ensures) (c .before .before .before .is-misplaced .ensures) ∙ c .before .before .if1 .left,
+      known-entry _ _ (c .before .before .before .before .before .before .before .body-type .ensures) (c .before .before .before .before .before .kind .given .1),
+      sym (c .before .before .before .is-misplaced .ensures) ∙ c .before .before .if1 .left,
       eq-eqb _ _ (c .before .if2 .taken),
     )
     (c .first-entry .ensures)
@@ -38,8 +33,8 @@ returns-2 c =
 returns-3 : tie.Need-returns-3
 returns-3 c =
     rw (
-      known-entry _ _ (c .before .before .before .before .before .before .before .before .before .body-type .ensures) (c .before .before .before .before .before .before .before .kind .given .1),
-      misplaced-is (kindIn (c .before .before .before .before .before .before .before .kind .given .0 .0)) (c .before .before .before .before .before .before .before .before .before .before .before .args .body .now) (c .before .before .before .before .before .before .before .before .before .before .before .args .place .0) (c .before .before .before .before .before .has-rows .ensures) (c .before .before .before .before .is-misplaced .ensures) ∙ c .before .before .before .if1 .left,
+      known-entry _ _ (c .before .before .before .before .before .before .before .before .body-type .ensures) (c .before .before .before .before .before .before .kind .given .1),
+      sym (c .before .before .before .before .is-misplaced .ensures) ∙ c .before .before .before .if1 .left,
       ne-eqb _ _ (c .before .before .if2 .left),
     )
     (c .entry-or-end .ensures)
@@ -53,7 +48,6 @@ entry-at-spec =
     (tie.spec
     (λ c κs. search needs)
     (λ c. search needs)
-    (λ c κs. search needs)
     (λ c κs. search needs)
     returns
     (λ c κs. search needs)

@@ -9,7 +9,7 @@ use Rattle.body.proofs.entries.row_at.Tie as tie
 returns : tie.Need-returns
 unfolding plus
 returns c =
-    row-all _ _ (c .before .before .before .before .before .before .before .before .before .before .before .before .before .before .before .before .args .base) (c .before .id-plus .result) (c .time-of-bits .result)
+    row-all _ _ (c .before .id-plus .result) (c .time-of-bits .result)
     (number-got _ _ (c .before .before .before .before .before .before .before .before .before .before .before .before .before .before .uvarint-at .ensures) (c .before .before .before .before .before .before .before .before .before .before .before .before .from-id .given .1))
     (number-got _ _ (c .before .before .before .before .before .before .before .before .before .before .uvarint-at2 .ensures) (c .before .before .before .before .before .before .before .before .from-time .given .1))
     (number-got _ _ (c .before .before .before .before .before .before .fixed-at .ensures) (c .before .before .before .before .bits .given .1))

@@ -1,0 +1,4 @@
+pub mod Putting
+pub mod Sizing
+pub mod Laying
+pub mod Adding

@@ -1,0 +1,59 @@
+-- Bytes put down one after another, and a loop that puts them down byte by byte.
+use mathlib.Core.Path.{_≡_, ap₂, _∙_}
+use mathlib.Core.List.{List, _++_}
+use Prim.Native.Nat.{ℕ, suc, _+_, _-_, _≤_, _<_}
+use native.Mathlib.Omega.{arith}
+use native.Mathlib.Numerals.{add-one}
+use lib.ListN.{length, getD, take, drop, set, drop-of-length-le, length-append, length-drop}
+use lib.Seq.{sets, length-sets, drop-cons, getD-take, getD-drop, length-take-le}
+use Rattle.varint.specs.Put.{putAt, putEnd}
+use Rattle.varint.specs.PutLaws.{put-fits, end-fits, sets-append}
+
+-- the bytes vs stand from place `at` on, d′ is the slice then, and r the place after them
+abbrev pub Put : List ℕ → ℕ → List ℕ → List ℕ → ℕ → Type 0
+Put d at vs d′ r = (r ≡ at + length vs) × (d′ ≡ sets d at vs)
+
+pub put-last : (d d′ : List ℕ) (at r : ℕ) (vs : List ℕ) → at + length vs ≤ length d → r ≡ putEnd d at vs → d′ ≡ putAt d at vs → Put d at vs d′ r
+put-last d d′ at r vs h e f = (e ∙ end-fits d at vs h, f ∙ put-fits d at vs h)
+
+-- a and then b, where both fit: a, the room for b, and both
+module _ (d d₁ : List ℕ) (at p : ℕ) (a b : List ℕ) (h : at + length (a ++ b) ≤ length d) where
+  pub put-first : p ≡ putEnd d at a → d₁ ≡ putAt d at a → Put d at a d₁ p
+  put-first e f = put-last d d₁ at p a (omega (arith, length-append a b)) e f
+
+  pub room-then : Put d at a d₁ p → p + length b ≤ length d₁
+  room-then (e, f) = rw (f, length-sets d at a) (omega (arith, length-append a b))
+
+  pub put-then : (d₂ : List ℕ) (q : ℕ) → Put d at a d₁ p → Put d₁ p b d₂ q → Put d at (a ++ b) d₂ q
+  put-then d₂ q (e, f) (k, l) = (
+    omega (arith, length-append a b),
+    l ∙ ap₂ (λ (x : List ℕ) (y : ℕ). sets x y b) f e ∙ sets-append a d b at,
+  )
+
+pub put-three : (d d₁ d₂ d₃ : List ℕ) (at p q r : ℕ) (a b c : List ℕ) → at + length (a ++ (b ++ c)) ≤ length d
+    → p ≡ putEnd d at a → d₁ ≡ putAt d at a → q ≡ putEnd d₁ p b → d₂ ≡ putAt d₁ p b → r ≡ putEnd d₂ q c → d₃ ≡ putAt d₂ q c
+    → Put d at (a ++ (b ++ c)) d₃ r
+put-three d d₁ d₂ d₃ at p q r a b c h e f g i j k =
+    let one : Put d at a d₁ p = put-first d d₁ at p a (b ++ c) h e f in
+    let room : p + length (b ++ c) ≤ length d₁ = room-then d d₁ at p a (b ++ c) h one in
+    let two : Put d₁ p b d₂ q = put-first d₁ d₂ p q b c room g i in
+    let three : Put d₂ q c d₃ r = put-last d₂ d₃ q r c (room-then d₁ d₂ p q b c room two) j k in
+    put-then d d₁ at p a (b ++ c) h d₃ r one (put-then d₁ d₂ p q b c room d₃ r two three)
+
+-- A loop that puts the list x down at `at`. Its invariant: with the rest of x put down too, the slice is `goal`.
+module _ (x goal : List ℕ) (at : ℕ) where
+  pub store-next : (s : List ℕ) (i v : ℕ) → i < length x → v ≡ getD x i 0 → sets s (at + i) (drop i x) ≡ goal
+      → sets (set s (at + i) v) (at + (i + 1)) (drop (i + 1) x) ≡ goal
+  store-next s i v h e k =
+      let n : at + (i + 1) ≡ suc (at + i) = omega arith in
+      rw (n, add-one i, e) (rw (drop-cons x i 0 h) at k)
+
+  pub store-done : (s : List ℕ) (i : ℕ) → length x ≤ i → sets s (at + i) (drop i x) ≡ goal → s ≡ goal
+  store-done s i h k = rw (drop-of-length-le x h) at k
+
+-- a part of a list, and a byte of it
+pub part-length : (s : List ℕ) (from n : ℕ) → from + n ≤ length s → length (take n (drop from s)) ≡ n
+part-length s from n h = length-take-le n (drop from s) (omega (arith, length-drop from s))
+
+pub part-at : (s : List ℕ) (from n i : ℕ) → i < n → getD s (from + i) 0 ≡ getD (take n (drop from s)) i 0
+part-at s from n i h = rw (getD-take n (drop from s) i 0 h, getD-drop from s i 0)

@@ -1,0 +1,140 @@
+-- How many bytes rows and lists of strings take, and the loops over the lengths.
+use mathlib.Core.Path.{_≡_, refl, sym, ap, _∙_}
+use mathlib.Core.Bool.{Bool, true, false, cond, _||_, not}
+use mathlib.Core.List.{List, [], _∷_, _++_}
+use Prim.Native.Nat.{ℕ, _+_, _-_, _/_, _%_, _≤_, _<_}
+use native.Mathlib.Omega.{arith}
+use native.Mathlib.Numerals.{add-one}
+use borrow.Author.Tests.{ltb-true, eq-eqb, ne-eqb, eqb-true, eqb-false}
+use lib.Dec.{ltb, eqb}
+use lib.ListN.{length, getD, drop, drop-of-length-le, length-drop}
+use lib.Seq.{drop-cons}
+use Rattle.wal_types.specs.Deltas.{minus}
+use Rattle.varint.specs.Put.{putAt, putEnd}
+use Rattle.varint.specs.Uvarint.{uvarint}
+use Rattle.varint.specs.UvarintLaws.{length-at-least-1}
+use Rattle.varint.specs.Fixed.{be8, readBe8}
+use Rattle.body_format.specs.Building.{textsBytes, textListBytes, cutTexts, total, badList, rowBytes}
+use Rattle.body_format.specs.Laws.Fields.{length-list}
+use Rattle.body_format.specs.Laws.Strings.{length-cut, length-cut-texts, row-first, row-later, length-row-first, length-row-later}
+use Rattle.body_builder.specs.declared.builder.Deltas.{Deltas}
+use Rattle.body_builder.specs.Sizes.{rowSize, rowTail, deltasIn, heads, listSize}
+use Rattle.body_builder.proofs.Putting.{Put, put-first, room-then, put-then}
+
+-- a size is exact, or above the limit as the size it stands for is
+pub data Sized (n m : ℕ) : Type 0 where
+  exact : n ≡ m → Sized n m
+  above : 65536 < n → 65536 < m → Sized n m
+
+pub more : (k : ℕ) {n m : ℕ} → Sized n m → Sized (k + n) (k + m)
+more k (exact e) = exact (ap (λ (x : ℕ). k + x) e)
+more k (above a b) = above (omega arith) (omega arith)
+
+-- ---- lengths
+
+pub heads-step : (lengths : List ℕ) (i : ℕ) → i < length lengths
+    → heads (drop i lengths) ≡ length (uvarint (getD lengths i 0)) + heads (drop (i + 1) lengths)
+unfolding heads
+heads-step lengths i h = rw (add-one i, drop-cons lengths i 0 h)
+
+pub heads-end : (lengths : List ℕ) (i : ℕ) → length lengths ≤ i → heads (drop i lengths) ≡ 0
+unfolding heads
+heads-end lengths i h = rw (drop-of-length-le lengths h)
+
+pub total-end : (lengths : List ℕ) (i : ℕ) → length lengths ≤ i → total (drop i lengths) ≡ 0
+unfolding total
+total-end lengths i h = rw (drop-of-length-le lengths h)
+
+heads-least : (lengths : List ℕ) → length lengths ≤ heads lengths
+unfolding heads
+heads-least [] = omega arith
+heads-least (n ∷ lengths) = omega (arith, length-at-least-1 n, heads-least lengths)
+
+-- nothing is left exactly where the sum is the size
+pub sum-is : (left sum size : ℕ) → left + sum ≡ size → eqb left 0 ≡ eqb sum size
+sum-is left sum size e = go (eqb left 0) refl
+  where
+    go : (t : Bool) → eqb left 0 ≡ t → eqb left 0 ≡ eqb sum size
+    go true a = a ∙ sym (eq-eqb sum size (omega (arith, eqb-true left 0 a)))
+    go false a = a ∙ sym (ne-eqb sum size (λ b. eqb-false left 0 a (omega arith)))
+
+-- the lengths of a list that is not bad add up
+pub good-sum : (bytes lengths : List ℕ) → badList bytes lengths ≡ false → total lengths ≡ length bytes
+unfolding badList
+good-sum bytes lengths h = go (eqb (length lengths % 2) 1) (eqb (total lengths) (length bytes)) refl h
+  where
+    go : (t u : Bool) → eqb (total lengths) (length bytes) ≡ u → t || not u ≡ false → total lengths ≡ length bytes
+    go true u e k = let z : _≡_ {A = ℕ} 0 1 = cc in absurd (omega arith)
+    go false true e k = eqb-true (total lengths) (length bytes) e
+    go false false e k = let z : _≡_ {A = ℕ} 0 1 = cc in absurd (omega arith)
+
+cut-size : (bytes lengths : List ℕ) → total lengths ≡ length bytes
+    → length (textsBytes (cutTexts bytes lengths)) ≡ heads lengths + length bytes
+unfolding cutTexts textsBytes heads total
+cut-size bytes [] e = omega arith
+cut-size bytes (n ∷ lengths) e =
+    omega (
+      arith,
+      length-cut-texts bytes lengths n (omega arith),
+      cut-size (drop n bytes) lengths (omega (arith, length-drop n bytes)),
+      length-drop n bytes,
+    )
+
+pub list-sized : (bytes lengths : List ℕ) → total lengths ≡ length bytes
+    → Sized (listSize (length bytes) lengths) (length (textListBytes (cutTexts bytes lengths)))
+unfolding listSize
+list-sized bytes lengths e = go (ltb 65536 (length lengths)) (ltb 65536 (length bytes)) refl refl
+  where
+    count : length (uvarint (length (cutTexts bytes lengths) / 2)) ≡ length (uvarint (length lengths / 2))
+    count = ap (λ (n : ℕ). length (uvarint (n / 2))) (length-cut bytes lengths)
+
+    whole : length (textListBytes (cutTexts bytes lengths)) ≡ length (uvarint (length lengths / 2)) + heads lengths + length bytes
+    whole = omega (arith, length-list (cutTexts bytes lengths), count, cut-size bytes lengths e)
+
+    go : (t u : Bool) → ltb 65536 (length lengths) ≡ t → ltb 65536 (length bytes) ≡ u
+        → Sized (cond t 65537 (cond u 65537 (length (uvarint (length lengths / 2)) + heads lengths + length bytes))) (length (textListBytes (cutTexts bytes lengths)))
+    go true u a b = above (omega arith) (omega (arith, ltb-true 65536 (length lengths) a, heads-least lengths, whole))
+    go false true a b = above (omega arith) (omega (arith, ltb-true 65536 (length bytes) b, whole))
+    go false false a b = exact (sym whole)
+
+-- ---- rows
+
+pub row-sized : (b : List ℕ) (u id time v : ℕ) (row : Deltas) → row ≡ deltasIn b id time → rowSize u (row .id) (row .time) ≡ length (rowBytes b u id time v)
+row-sized b u id time v row e = ap (λ (r : Deltas). rowSize u (r .id) (r .time)) e ∙ go (eqb u 1) refl
+  where
+    go : (t : Bool) → eqb u 1 ≡ t → rowSize u (minus id (readBe8 (drop 1 b))) (minus time (readBe8 (drop 9 b))) ≡ length (rowBytes b u id time v)
+    go true a = rw a (sym (length-row-first b u id time v (eqb-true u 1 a)))
+    go false a = rw a (sym (length-row-later b u id time v (eqb-false u 1 a)))
+
+-- a later row
+pub later-row : (b : List ℕ) (u id time v : ℕ) (row : Deltas) → row ≡ deltasIn b id time → (u ≡ 1 → ⊥) → rowTail (row .id) (row .time) v ≡ rowBytes b u id time v
+unfolding rowTail
+later-row b u id time v row e h = ap (λ (r : Deltas). rowTail (r .id) (r .time) v) e ∙ sym (row-later b u id time v h)
+
+-- the first row, from what its puts say
+module _ (b d₁ d₂ : List ℕ) (u p q id time v : ℕ) (first : u ≡ 1) (room : u + length (rowBytes b u id time v) ≤ length b)
+    (e : p ≡ putEnd b u (be8 id)) (f : d₁ ≡ putAt b u (be8 id)) (g : q ≡ putEnd d₁ p (be8 time)) (h : d₂ ≡ putAt d₁ p (be8 time)) where
+  bytes : rowBytes b u id time v ≡ be8 id ++ (be8 time ++ rowTail 0 0 v)
+  unfolding rowTail
+  bytes = row-first b u id time v first
+
+  room₀ : u + length (be8 id ++ (be8 time ++ rowTail 0 0 v)) ≤ length b
+  room₀ = rw bytes at room
+
+  one : Put b u (be8 id) d₁ p
+  one = put-first b d₁ u p (be8 id) (be8 time ++ rowTail 0 0 v) room₀ e f
+
+  room₁ : p + length (be8 time ++ rowTail 0 0 v) ≤ length d₁
+  room₁ = room-then b d₁ u p (be8 id) (be8 time ++ rowTail 0 0 v) room₀ one
+
+  two : Put d₁ p (be8 time) d₂ q
+  two = put-first d₁ d₂ p q (be8 time) (rowTail 0 0 v) room₁ g h
+
+  pub first-room : q + length (rowTail 0 0 v) ≤ length d₂
+  first-room = room-then d₁ d₂ p q (be8 time) (rowTail 0 0 v) room₁ two
+
+  pub first-row : (d₃ : List ℕ) (r : ℕ) → Put d₂ q (rowTail 0 0 v) d₃ r → Put b u (rowBytes b u id time v) d₃ r
+  first-row d₃ r three =
+      rw bytes
+      (put-then b d₁ u p (be8 id) (be8 time ++ rowTail 0 0 v) room₀ d₃ r one
+      (put-then d₁ d₂ p q (be8 time) (rowTail 0 0 v) room₁ d₃ r two three))

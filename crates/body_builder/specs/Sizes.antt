@@ -1,0 +1,79 @@
+-- What decides an addition, by numbers: the definition `add` of body_format with a size in place of the entry's bytes; and the sizes of entries.
+-- Assumes nothing.
+use mathlib.Core.Bool.{Bool, true, false, cond, not}
+use mathlib.Core.List.{List, [], _∷_, _++_}
+use Prim.Native.Nat.{ℕ, _+_, _/_}
+use lib.IntN.{ℤ}
+use lib.Dec.{ltb, eqb}
+use lib.ListN.{length, drop}
+use Rattle.wal_types.specs.declared.Refusal.the-variants.{BadPlace, TooLong, NoRoom, BadList, WrongKind}
+use Rattle.wal_types.specs.Terms.{offset}
+use Rattle.wal_types.specs.Deltas.{minus}
+use Rattle.varint.specs.Uvarint.{uvarint}
+use Rattle.varint.specs.Varint.{varint}
+use Rattle.varint.specs.Fixed.{be8, readBe8}
+use Rattle.body_format.specs.Entries.{Known, known, unknown}
+use Rattle.body_format.specs.Building.{Outcome, used, refused, badState}
+use Rattle.body_builder.specs.declared.Added.{Added}
+use Rattle.body_builder.specs.declared.Added.the-variants.{Next, Refused}
+use Rattle.body_builder.specs.declared.builder.Gate.{Gate}
+use Rattle.body_builder.specs.declared.builder.Gate.the-variants.{Open, Shut}
+use Rattle.body_builder.specs.declared.builder.Deltas.{Deltas}
+
+-- whether a byte stands for a type
+abbrev pub isKnown : Known → Bool
+isKnown (known k) = true
+isKnown unknown = false
+
+-- what an outcome hands back of a body of type t
+abbrev pub addedOf : ℕ → Outcome → Added
+addedOf t (used n) = Next (record { kind = t; used = offset n })
+addedOf t (refused why) = Refused why
+
+abbrev pub gateFor : Outcome → Gate
+gateFor (used n) = Open
+gateFor (refused why) = Shut why
+
+-- an entry of n bytes that belongs in a body of type `want`: BadPlace, WrongKind, BadList, TooLong, NoRoom
+abbrev pub fitting : List ℕ → ℕ → ℕ → Outcome
+fitting b u n =
+    cond (ltb 65536 (u + n)) (refused (TooLong (offset u)))
+    (cond (ltb (length b) (u + n)) (refused (NoRoom (offset u)))
+    (used (u + n)))
+
+unfoldable pub decided : List ℕ → ℕ → ℕ → ℕ → Bool → ℕ → Outcome
+decided b t u want bad n =
+    cond (badState b t u) (refused BadPlace)
+    (cond (not (eqb t want)) (refused WrongKind)
+    (cond bad (refused BadList)
+    (fitting b u n)))
+
+-- ---- rows
+
+abbrev pub deltasIn : List ℕ → ℕ → ℕ → Deltas
+deltasIn b id time = record { id = minus id (readBe8 (drop 1 b)); time = minus time (readBe8 (drop 9 b)) }
+
+-- two deltas and the value
+unfoldable pub rowTail : ℕ → ℕ → ℕ → List ℕ
+rowTail d e v = uvarint d ++ (uvarint e ++ be8 v)
+
+-- the first row has two fields of eight bytes more, and deltas of one byte
+abbrev pub rowSize : ℕ → ℕ → ℕ → ℕ
+rowSize u d e = cond (eqb u 1) 26 (length (uvarint d) + length (uvarint e) + 8)
+
+-- ---- other entries
+
+abbrev pub tombstoneSize : ℤ → ℤ → ℕ
+tombstoneSize min max = 8 + (length (varint min) + length (varint max))
+
+-- how many bytes the lengths of strings take
+unfoldable pub heads : List ℕ → ℕ
+heads [] = 0
+heads (n ∷ lengths) = length (uvarint n) + heads lengths
+
+-- how many bytes a list takes: its count, the lengths and the strings' n bytes; one number above 65,536 for every list of more strings or bytes than that
+unfoldable pub listSize : ℕ → List ℕ → ℕ
+listSize n lengths =
+    cond (ltb 65536 (length lengths)) 65537
+    (cond (ltb 65536 n) 65537
+    (length (uvarint (length lengths / 2)) + heads lengths + n))

@@ -1,0 +1,220 @@
+// Building: what decides a start or an addition, and the bytes of an entry at a place that has room for them.
+use crate::lent::put_list;
+use wal_types::Offset;
+use wal_types::Refusal;
+use wal_types::SeriesId;
+use wal_types::Timestamp;
+use wal_types::id_delta;
+use wal_types::time_bits;
+ghost use mathlib.Core.Path.{_≡_};
+ghost use mathlib.Core.Bool.{_||_};
+ghost use Prim.Native.Nat.{_+_, _≤_};
+ghost use lib.Dec.{eqb};
+ghost use lib.ListN.{length};
+ghost use lib.Seq.{sets};
+ghost use Rattle.wal_types.specs.Deltas.{toBits};
+ghost use Rattle.body_format.specs.Building.{badState, cutTexts, total, rowBytes, entryBytes};
+ghost use Rattle.body_format.specs.Entries.{kindOf, seriesEntry, tombstoneEntry, metadataEntry};
+ghost use Rattle.body_builder.specs.Sizes.{isKnown, decided, gateFor, deltasIn, rowSize, rowTail, tombstoneSize};
+
+// Whether an entry may be added, or why not.
+pub(crate) enum Gate {
+    Open,
+    Shut(Refusal),
+}
+
+// A row's deltas to the first id and the first timestamp.
+pub(crate) struct Deltas {
+    pub id: u64,
+    pub time: u64,
+}
+
+// The types 1 to 4 and 6.
+pub(crate) fn is_known(kind: u8) -> bool
+    ensures { λ r. ⌜ r ≡ isKnown (kindOf kind) ⌝ }
+{
+    match kind {
+        1 => true,
+        2 => true,
+        3 => true,
+        4 => true,
+        6 => true,
+        _ => false,
+    }
+}
+
+// Types 2 and 4.
+fn is_row_type(kind: u8) -> bool
+    ensures { λ r. ⌜ r ≡ (eqb kind 2 || eqb kind 4) ⌝ }
+{
+    if kind == 2 {
+        return true;
+    }
+    kind == 4
+}
+
+// BadPlace: a state (kind, used) that no body in the buffer has.
+fn state_is_bad(buffer: &[u8], kind: u8, used: usize) -> bool
+    ensures { λ r. ⌜ r ≡ badState (now (buffer .entry)) kind used ⌝ }
+{
+    if used == 0 {
+        return true;
+    }
+    if buffer.len() < used {
+        return true;
+    }
+    if buffer[0] != kind {
+        return true;
+    }
+    if !is_row_type(kind) {
+        return false;
+    }
+    if used < 2 {
+        return false;
+    }
+    used <= 16
+}
+
+// Decides by numbers alone: the state (kind, used), the type that the entry belongs in, whether its list is bad, and its size.
+pub(crate) fn admit(buffer: &[u8], kind: u8, used: usize, want: u8, bad: bool, size: usize) -> Gate
+    ensures { λ r. ⌜ r ≡ gateFor (decided (now (buffer .entry)) kind used want bad size) ⌝ }
+{
+    if state_is_bad(buffer, kind, used) {
+        return Gate::Shut(Refusal::BadPlace);
+    }
+    if kind != want {
+        return Gate::Shut(Refusal::WrongKind);
+    }
+    if bad {
+        return Gate::Shut(Refusal::BadList);
+    }
+    if 65536 < used {
+        return Gate::Shut(Refusal::TooLong(Offset(used)));
+    }
+    if 65536 - used < size {
+        return Gate::Shut(Refusal::TooLong(Offset(used)));
+    }
+    if buffer.len() - used < size {
+        return Gate::Shut(Refusal::NoRoom(Offset(used)));
+    }
+    Gate::Open
+}
+
+// The deltas of a row to bytes 1 to 16 of the buffer. The first row has none, and does not look at them.
+pub(crate) fn deltas_of(buffer: &[u8], id: SeriesId, time: Timestamp) -> Deltas
+    ensures { λ r. ⌜ r ≡ deltasIn (now (buffer .entry)) (id .0) (toBits (time .0)) ⌝ }
+{
+    let first_id = varint::get_be8(buffer, 1);
+    let first_time = varint::get_be8(buffer, 9);
+    let from_id = id_delta(id, SeriesId(first_id));
+    let bits = time_bits(time);
+    let from_time = std::num::wrapping_sub_u64(bits, first_time);
+    Deltas {
+        id: from_id,
+        time: from_time,
+    }
+}
+
+// How many bytes a row takes behind `used` bytes: the first one brings the first id and timestamp.
+pub(crate) fn row_size(used: usize, row: Deltas) -> usize
+    ensures { λ r. ⌜ (r ≡ rowSize used (row .id) (row .time)) × (r ≤ 28) ⌝ }
+{
+    if used == 1 {
+        return 26;
+    }
+    let first = varint::uvarint_len(row.id);
+    let second = varint::uvarint_len(row.time);
+    let both = first + second;
+    both + 8
+}
+
+// Two deltas and the value.
+fn put_deltas(buffer: &mut [u8], at: usize, id: u64, time: u64, bits: u64) -> usize
+    requires { ⌜ at + length (rowTail id time bits) ≤ length (now buffer) ⌝ }
+    ensures { λ r. ⌜ r ≡ at + length (rowTail id time bits) ⌝ }
+    ensures { λ _. ⌜ now (buffer .exit) ≡ sets (now (buffer .entry)) at (rowTail id time bits) ⌝ }
+{
+    let second = varint::put_uvarint(buffer, at, id);
+    let third = varint::put_uvarint(buffer, second, time);
+    varint::put_be8(buffer, third, bits)
+}
+
+// What types 2 and 4 share: a row.
+pub(crate) fn put_row(
+    buffer: &mut [u8],
+    at: usize,
+    id: SeriesId,
+    time: Timestamp,
+    row: Deltas,
+    bits: u64,
+) -> usize
+    requires { ⌜ (row ≡ deltasIn (now buffer) (id .0) (toBits (time .0))) × (at + length (rowBytes (now buffer) at (id .0) (toBits (time .0)) bits) ≤ length (now buffer)) ⌝ }
+    ensures { λ r. ⌜ r ≡ at + length (rowBytes (now (buffer .entry)) at (id .0) (toBits (time .0)) bits) ⌝ }
+    ensures { λ _. ⌜ now (buffer .exit) ≡ sets (now (buffer .entry)) at (rowBytes (now (buffer .entry)) at (id .0) (toBits (time .0)) bits) ⌝ }
+{
+    if at == 1 {
+        let second = varint::put_be8(buffer, at, id.0);
+        let third = varint::put_be8(buffer, second, time_bits(time));
+        return put_deltas(buffer, third, 0, 0, bits);
+    }
+    put_deltas(buffer, at, row.id, row.time, bits)
+}
+
+// How many bytes a tombstone takes.
+pub(crate) fn tombstone_size(min: Timestamp, max: Timestamp) -> usize
+    ensures { λ r. ⌜ r ≡ tombstoneSize (min .0) (max .0) ⌝ }
+{
+    let first = varint::varint_len(min.0);
+    let second = varint::varint_len(max.0);
+    let both = first + second;
+    8 + both
+}
+
+pub(crate) fn put_tombstone(
+    buffer: &mut [u8],
+    at: usize,
+    id: SeriesId,
+    min: Timestamp,
+    max: Timestamp,
+) -> usize
+    requires { ⌜ at + length (entryBytes (now buffer) at (tombstoneEntry (id .0) (min .0) (max .0))) ≤ length (now buffer) ⌝ }
+    ensures { λ r. ⌜ r ≡ at + length (entryBytes (now (buffer .entry)) at (tombstoneEntry (id .0) (min .0) (max .0))) ⌝ }
+    ensures { λ _. ⌜ now (buffer .exit) ≡ sets (now (buffer .entry)) at (entryBytes (now (buffer .entry)) at (tombstoneEntry (id .0) (min .0) (max .0))) ⌝ }
+{
+    let second = varint::put_be8(buffer, at, id.0);
+    let third = varint::put_varint(buffer, second, min.0);
+    varint::put_varint(buffer, third, max.0)
+}
+
+pub(crate) fn put_series(
+    buffer: &mut [u8],
+    at: usize,
+    id: SeriesId,
+    strings: &[u8],
+    lengths: &[u64],
+) -> usize
+    requires { ⌜ (total (now lengths) ≡ length (now strings)) × (at + length (entryBytes (now buffer) at (seriesEntry (id .0) (cutTexts (now strings) (now lengths)))) ≤ length (now buffer)) ⌝ }
+    ensures { λ r. ⌜ r ≡ at + length (entryBytes (now (buffer .entry)) at (seriesEntry (id .0) (cutTexts (now (strings .entry)) (now (lengths .entry))))) ⌝ }
+    ensures { λ _. ⌜ now (buffer .exit) ≡ sets (now (buffer .entry)) at (entryBytes (now (buffer .entry)) at (seriesEntry (id .0) (cutTexts (now (strings .entry)) (now (lengths .entry))))) ⌝ }
+{
+    let list = varint::put_be8(buffer, at, id.0);
+    put_list(buffer, list, strings, lengths)
+}
+
+pub(crate) fn put_metadata(
+    buffer: &mut [u8],
+    at: usize,
+    id: SeriesId,
+    metric: u8,
+    strings: &[u8],
+    lengths: &[u64],
+) -> usize
+    requires { ⌜ (total (now lengths) ≡ length (now strings)) × (at + length (entryBytes (now buffer) at (metadataEntry (id .0) metric (cutTexts (now strings) (now lengths)))) ≤ length (now buffer)) ⌝ }
+    ensures { λ r. ⌜ r ≡ at + length (entryBytes (now (buffer .entry)) at (metadataEntry (id .0) metric (cutTexts (now (strings .entry)) (now (lengths .entry))))) ⌝ }
+    ensures { λ _. ⌜ now (buffer .exit) ≡ sets (now (buffer .entry)) at (entryBytes (now (buffer .entry)) at (metadataEntry (id .0) metric (cutTexts (now (strings .entry)) (now (lengths .entry))))) ⌝ }
+{
+    let second = varint::put_uvarint(buffer, at, id.0);
+    buffer[second] = metric;
+    let list = second + 1;
+    put_list(buffer, list, strings, lengths)
+}

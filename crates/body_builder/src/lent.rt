@@ -1,0 +1,111 @@
+// Strings as they are lent for building: one slice of bytes, and one of lengths.
+ghost use mathlib.Core.Path.{_≡_};
+ghost use Prim.Native.Nat.{_+_, _*_, _≤_};
+ghost use lib.Dec.{eqb};
+ghost use lib.ListN.{length, take, drop};
+ghost use lib.Seq.{sets};
+ghost use Rattle.body_format.specs.Building.{textsBytes, textListBytes, cutTexts, total, badList};
+ghost use Rattle.body_builder.specs.Sizes.{heads, listSize};
+
+// BadList: an odd number of strings, or lengths that do not add up to the bytes.
+pub(crate) fn list_is_bad(strings: &[u8], lengths: &[u64]) -> bool
+    ensures { λ r. ⌜ r ≡ badList (now (strings .entry)) (now (lengths .entry)) ⌝ }
+{
+    if lengths.len() % 2 == 1 {
+        return true;
+    }
+    !add_up(lengths, strings.len())
+}
+
+// Whether lengths add up to a size. Each is taken from what is left, so that no sum can wrap.
+fn add_up(lengths: &[u64], size: usize) -> bool
+    ensures { λ r. ⌜ r ≡ eqb (total (now (lengths .entry))) size ⌝ }
+{
+    let mut left = size as u64;
+    let mut i: usize = 0;
+    while i < lengths.len() {
+        let next = lengths[i];
+        if left < next {
+            return false;
+        }
+        left -= next;
+        i += 1;
+    }
+    left == 0
+}
+
+// How many bytes the list takes in a body. Above 65,536 it fits in no body, and any number above that will do.
+pub(crate) fn list_size(strings: &[u8], lengths: &[u64]) -> usize
+    ensures { λ r. ⌜ (r ≡ listSize (length (now (strings .entry))) (now (lengths .entry))) × (r ≤ 1000000) ⌝ }
+{
+    if 65536 < lengths.len() {
+        return 65537;
+    }
+    if 65536 < strings.len() {
+        return 65537;
+    }
+    let pairs = (lengths.len() / 2) as u64;
+    let count = varint::uvarint_len(pairs);
+    let heads = heads_size(lengths);
+    let both = count + heads;
+    both + strings.len()
+}
+
+// How many bytes the lengths take, each before its string.
+fn heads_size(lengths: &[u64]) -> usize
+    requires { ⌜ length (now lengths) ≤ 65536 ⌝ }
+    ensures { λ r. ⌜ (r ≡ heads (now (lengths .entry))) × (r ≤ 10 * length (now (lengths .entry))) ⌝ }
+{
+    let mut size: usize = 0;
+    let mut i: usize = 0;
+    while i < lengths.len() {
+        let head = varint::uvarint_len(lengths[i]);
+        size += head;
+        i += 1;
+    }
+    size
+}
+
+// The list at a place that has room for it; the place after it.
+pub(crate) fn put_list(buffer: &mut [u8], at: usize, strings: &[u8], lengths: &[u64]) -> usize
+    requires { ⌜ (total (now lengths) ≡ length (now strings)) × (at + length (textListBytes (cutTexts (now strings) (now lengths))) ≤ length (now buffer)) ⌝ }
+    ensures { λ r. ⌜ r ≡ at + length (textListBytes (cutTexts (now (strings .entry)) (now (lengths .entry)))) ⌝ }
+    ensures { λ _. ⌜ now (buffer .exit) ≡ sets (now (buffer .entry)) at (textListBytes (cutTexts (now (strings .entry)) (now (lengths .entry)))) ⌝ }
+{
+    let pair_count = (lengths.len() / 2) as u64;
+    let first = varint::put_uvarint(buffer, at, pair_count);
+    put_texts(buffer, first, strings, lengths)
+}
+
+// The strings in a row, each behind its length.
+fn put_texts(buffer: &mut [u8], at: usize, strings: &[u8], lengths: &[u64]) -> usize
+    requires { ⌜ (total (now lengths) ≡ length (now strings)) × (at + length (textsBytes (cutTexts (now strings) (now lengths))) ≤ length (now buffer)) ⌝ }
+    ensures { λ r. ⌜ r ≡ at + length (textsBytes (cutTexts (now (strings .entry)) (now (lengths .entry)))) ⌝ }
+    ensures { λ _. ⌜ now (buffer .exit) ≡ sets (now (buffer .entry)) at (textsBytes (cutTexts (now (strings .entry)) (now (lengths .entry)))) ⌝ }
+{
+    let mut place = at;
+    let mut from: usize = 0;
+    let mut i: usize = 0;
+    while i < lengths.len() {
+        let head = lengths[i];
+        let count = head as usize;
+        let start = varint::put_uvarint(buffer, place, head);
+        copy(strings, from, count, buffer, start);
+        place = start + count;
+        from += count;
+        i += 1;
+    }
+    place
+}
+
+// `count` bytes of `source` from `from` on, put down at `at`.
+fn copy(source: &[u8], from: usize, count: usize, to: &mut [u8], at: usize)
+    requires { ⌜ (from + count ≤ length (now source)) × (at + count ≤ length (now to)) ⌝ }
+    ensures { λ _. ⌜ now (to .exit) ≡ sets (now (to .entry)) at (take count (drop from (now (source .entry)))) ⌝ }
+{
+    let mut i: usize = 0;
+    while i < count {
+        to[at + i] = source[from + i];
+        i += 1;
+    }
+}
