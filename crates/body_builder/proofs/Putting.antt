@@ -1,11 +1,10 @@
--- Bytes put down one after another, and a loop that puts them down byte by byte.
+-- Bytes put down one after another.
 use mathlib.Core.Path.{_≡_, ap₂, _∙_}
 use mathlib.Core.List.{List, _++_}
-use Prim.Native.Nat.{ℕ, suc, _+_, _-_, _≤_, _<_}
+use Prim.Native.Nat.{ℕ, _+_, _≤_}
 use native.Mathlib.Omega.{arith}
-use native.Mathlib.Numerals.{add-one}
-use lib.ListN.{length, getD, take, drop, set, drop-of-length-le, length-append, length-drop}
-use lib.Seq.{sets, length-sets, drop-cons, getD-take, getD-drop, length-take-le}
+use lib.ListN.{length, take, drop, length-append, length-drop}
+use lib.Seq.{sets, length-sets, length-take-le}
 use Rattle.varint.specs.Put.{putAt, putEnd}
 use Rattle.varint.specs.PutLaws.{put-fits, end-fits, sets-append}
 
@@ -40,20 +39,6 @@ put-three d d₁ d₂ d₃ at p q r a b c h e f g i j k =
     let three : Put d₂ q c d₃ r = put-last d₂ d₃ q r c (room-then d₁ d₂ p q b c room two) j k in
     put-then d d₁ at p a (b ++ c) h d₃ r one (put-then d₁ d₂ p q b c room d₃ r two three)
 
--- A loop that puts the list x down at `at`. Its invariant: with the rest of x put down too, the slice is `goal`.
-module _ (x goal : List ℕ) (at : ℕ) where
-  pub store-next : (s : List ℕ) (i v : ℕ) → i < length x → v ≡ getD x i 0 → sets s (at + i) (drop i x) ≡ goal
-      → sets (set s (at + i) v) (at + (i + 1)) (drop (i + 1) x) ≡ goal
-  store-next s i v h e k =
-      let n : at + (i + 1) ≡ suc (at + i) = omega arith in
-      rw (n, add-one i, e) (rw (drop-cons x i 0 h) at k)
-
-  pub store-done : (s : List ℕ) (i : ℕ) → length x ≤ i → sets s (at + i) (drop i x) ≡ goal → s ≡ goal
-  store-done s i h k = rw (drop-of-length-le x h) at k
-
--- a part of a list, and a byte of it
+-- a part of a list
 pub part-length : (s : List ℕ) (from n : ℕ) → from + n ≤ length s → length (take n (drop from s)) ≡ n
 part-length s from n h = length-take-le n (drop from s) (omega (arith, length-drop from s))
-
-pub part-at : (s : List ℕ) (from n i : ℕ) → i < n → getD s (from + i) 0 ≡ getD (take n (drop from s)) i 0
-part-at s from n i h = rw (getD-take n (drop from s) i 0 h, getD-drop from s i 0)

@@ -90,22 +90,10 @@ fn put_texts(buffer: &mut [u8], at: usize, strings: &[u8], lengths: &[u64]) -> u
         let head = lengths[i];
         let count = head as usize;
         let start = varint::put_uvarint(buffer, place, head);
-        copy(strings, from, count, buffer, start);
+        copying::copy(strings, from, count, buffer, start);
         place = start + count;
         from += count;
         i += 1;
     }
     place
-}
-
-// `count` bytes of `source` from `from` on, put down at `at`.
-fn copy(source: &[u8], from: usize, count: usize, to: &mut [u8], at: usize)
-    requires { ⌜ (from + count ≤ length (now source)) × (at + count ≤ length (now to)) ⌝ }
-    ensures { λ _. ⌜ now (to .exit) ≡ sets (now (to .entry)) at (take count (drop from (now (source .entry)))) ⌝ }
-{
-    let mut i: usize = 0;
-    while i < count {
-        to[at + i] = source[from + i];
-        i += 1;
-    }
 }

@@ -2,7 +2,9 @@
 use borrow.Author.Needs.{needs}
 use native.Mathlib.Omega.{arith}
 use Prim.Native.Nat.{_-_, _<_}
+use mathlib.Core.Path.{_∙_}
 use lib.ListN.{length}
+use Rattle.copying.specs.CopiedLaws.{copied-fits}
 use Rattle.body_builder.proofs.Laying.{Laying, laying, laid, text-inside, text-room, text-laid}
 use Rattle.body_builder.proofs.lent.put_texts.Statement.{statement}
 use Rattle.body_builder.proofs.lent.put_texts.Tie as tie
@@ -15,15 +17,6 @@ abbrev μ-loop : tie.MeasureT-loop
 
 loop-holds : tie.Need-loop-holds Inv-loop μ-loop
 loop-holds c = laying _ _ _ _ (c .before .before .before .pre .0)
-
-copy-requires : tie.Need-copy-requires Inv-loop μ-loop
-copy-requires c κs =
-    let l = c .before .before .before .before .before .before .before .loop in
-    let w = c .before .before .before .put-uvarint .ensures in
-    let h : l .i < length (c .before .before .before .before .before .before .before .before .before .before .before .args .lengths .now) = omega arith in (
-      text-inside _ _ _ _ _ _ _ _ (l .inv) h (c .before .before .before .before .before .before .before .before .before .before .before .pre .1) _ _ (w .0) (w .1),
-      text-room _ _ _ _ _ _ _ _ (l .inv) h (c .before .before .before .before .before .before .before .before .before .before .before .pre .1) _ _ (w .0) (w .1),
-    )
 
 add-place : tie.Need-add-place Inv-loop μ-loop
 add-place c =
@@ -50,7 +43,10 @@ loop-again c =
     let l = c .before .before .before .before .before .before .before .before .before .before .loop in
     let w = c .before .before .before .before .before .before .put-uvarint .ensures in
     let h : l .i < length (c .before .before .before .before .before .before .before .before .before .before .before .before .before .before .args .lengths .now) = omega arith in
-    text-laid _ _ _ _ _ _ _ _ (l .inv) h (c .before .before .before .before .before .before .before .before .before .before .before .before .before .before .pre .1) _ _ (w .0) (w .1) _ (c .before .before .copy .ensures)
+    let pre = c .before .before .before .before .before .before .before .before .before .before .before .before .before .before .pre .1 in
+    let inside = text-inside _ _ _ _ _ _ _ _ (l .inv) h pre _ _ (w .0) (w .1) in
+    let room = text-room _ _ _ _ _ _ _ _ (l .inv) h pre _ _ (w .0) (w .1) in
+    text-laid _ _ _ _ _ _ _ _ (l .inv) h (c .before .before .before .before .before .before .before .before .before .before .before .before .before .before .pre .1) _ _ (w .0) (w .1) _ (c .before .before .copy .ensures ∙ copied-fits _ _ _ _ _ inside room)
 
 same-length : tie.Need-same-length Inv-loop μ-loop
 same-length c = c .before .loop .inv .size
@@ -68,7 +64,7 @@ put-texts-spec =
     (λ c. search needs)
     (λ c. search needs)
     (λ c κs. search needs)
-    copy-requires
+    (λ c κs. search needs)
     add-place
     add-from
     add-i
