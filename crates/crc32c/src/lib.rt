@@ -166,44 +166,44 @@ fn short(state: u32, s: &[u8]) -> u32
 
 // ---- by folding
 
-// Folds the first n bytes of m into y.
+// Folds the first n bytes of m into y. No byte is read again before 154 bytes more are stored; from 128 on, the compiler takes 16 at once.
 fn fold(y: &mut [u8], m: &[u8], n: usize)
-    requires { ⌜ (n ≤ length (now m)) × (n + 266 ≤ length (now y)) ⌝ }
+    requires { ⌜ (n ≤ length (now m)) × (n + 290 ≤ length (now y)) ⌝ }
     ensures { λ r. ⌜ Folded (now (m .entry)) (now (y .entry)) (now (y .exit)) n ⌝ }
 {
     let mut i = 0;
     while i < n {
-        y[i + 266] = m[i] ^ (y[i + 143] ^ y[i + 121] ^ y[i + 88] ^ y[i + 71] ^ y[i]);
+        y[i + 290] = m[i] ^ (y[i + 136] ^ y[i + 113] ^ y[i + 107] ^ y[i + 32] ^ y[i]);
         i += 1;
     }
 }
 
-// The last 266 bytes of m, with what y puts onto them.
+// The last 290 bytes of m, with what y puts onto them.
 fn rest(r: &mut [u8], y: &[u8], m: &[u8], n: usize)
-    requires { ⌜ (length (now r) ≡ 266) × (length (now m) ≡ n + 266) × (n + 532 ≤ length (now y)) ⌝ }
+    requires { ⌜ (length (now r) ≡ 290) × (length (now m) ≡ n + 290) × (n + 580 ≤ length (now y)) ⌝ }
     ensures { λ q. ⌜ Rest (now (m .entry)) (now (y .entry)) (now (r .exit)) n ⌝ }
 {
     let mut j = 0;
-    while j < 266 {
+    while j < 290 {
         let i = n + j;
-        r[j] = m[i] ^ (y[i + 143] ^ y[i + 121] ^ y[i + 88] ^ y[i + 71] ^ y[i]);
+        r[j] = m[i] ^ (y[i + 136] ^ y[i + 113] ^ y[i + 107] ^ y[i + 32] ^ y[i]);
         j += 1;
     }
 }
 
 // The register after a block: the bytes of a slice that is long enough to fold, and not too long for the buffer.
 fn block(state: u32, m: &[u8]) -> u32
-    requires { ⌜ (266 ≤ length (now m)) × (length (now m) ≤ 8192) ⌝ }
+    requires { ⌜ (290 ≤ length (now m)) × (length (now m) ≤ 8192) ⌝ }
     ensures { λ r. ⌜ r ≡ register state (now (m .entry)) ⌝ }
 {
-    let n = m.len() - 266;
-    let mut y = [0u8; 8458];
+    let n = m.len() - 290;
+    let mut y = [0u8; 8482];
     y[0] = (state % 256) as u8;
     y[1] = (state / 256 % 256) as u8;
     y[2] = (state / 256 / 256 % 256) as u8;
     y[3] = (state / 256 / 256 / 256) as u8;
     fold(&mut y, m, n);
-    let mut r = [0u8; 266];
+    let mut r = [0u8; 290];
     rest(&mut r, &y, m, n);
     short(0, &r)
 }

@@ -61,9 +61,9 @@ returns c =
     let a = c .before .before .before .before .before .before .before .before .before .before .args in
     let m = a .m .now in
     let y = c .before .before .before .before .before .before .before .fold .last .0 in
-    let ly : length y ≡ 8458 = c .before .before .before .before .before .before .y2 .given in
+    let ly : length y ≡ 8482 = c .before .before .before .before .before .before .y2 .given in
     c .short .ensures
-    ∙ register-fold 8454 (a .state) (length m - 266) m y (c .before .before .before .rest .last .0) (c .before .before .before .before .before .before .before .fold .ensures) (c .before .before .before .rest .ensures)
+    ∙ register-fold 8478 (a .state) (length m - 290) m y (c .before .before .before .rest .last .0) (c .before .before .before .before .before .before .before .fold .ensures) (c .before .before .before .rest .ensures)
     (omega arith) (omega arith) (search needs)
 
 pub block-spec : {M : Type 1} → statement M

@@ -12,10 +12,10 @@ use Rattle.crc32c.proofs.rest.Tie as tie
 
 abbrev Inv-loop : tie.InvT-loop
 Inv-loop r₀ y m n j₀ r j =
-    (j ≤ 266) × (length r ≡ 266) × ((k : ℕ) → k < j → getD r k 0 ≡ bitXor (getD m (n + k) 0) (taps y (n + k))) × ((k : ℕ) → 0 < j → getD y k 0 < 256)
+    (j ≤ 290) × (length r ≡ 290) × ((k : ℕ) → k < j → getD r k 0 ≡ bitXor (getD m (n + k) 0) (taps y (n + k))) × ((k : ℕ) → 0 < j → getD y k 0 < 256)
 
 abbrev μ-loop : tie.MeasureT-loop
-μ-loop r₀ y m n j₀ r j = 266 - j
+μ-loop r₀ y m n j₀ r j = 290 - j
 
 loop-holds : tie.Need-loop-holds Inv-loop μ-loop
 loop-holds c = (search needs, search needs, λ k h. absurd (omega arith), λ k h. absurd (omega arith))

@@ -1,4 +1,4 @@
--- Method, laws: a message folds to its last 266 bytes.
+-- Method, laws: a message folds to its last 290 bytes.
 use mathlib.Core.Path.{_≡_, refl, sym, ap, ap₂, _∙_, subst}
 use mathlib.Core.List.{List, [], _∷_, _++_}
 use Prim.Native.Nat.{ℕ, zero, suc, _+_, _-_, _*_, _^_, _<_, _≤_}
@@ -75,8 +75,8 @@ overlay : List ℕ → ℕ
 overlay y = bitXor (later (λ d. littleEndian (drop d y))) (littleEndian y)
 
 -- a list y whose number has n bits, and whose first bytes, up to each distance, have the number c
-fold-steps : (n c : ℕ) (y : List ℕ) → 266 ≤ length y → littleEndian y < 2 ^ n → c < 2 ^ n
-    → ((d : ℕ) → 71 ≤ d → d ≤ 266 → littleEndian (take d y) ≡ c) → bitSteps n (overlay y) ≡ bitSteps n c
+fold-steps : (n c : ℕ) (y : List ℕ) → 290 ≤ length y → littleEndian y < 2 ^ n → c < 2 ^ n
+    → ((d : ℕ) → 32 ≤ d → d ≤ 290 → littleEndian (take d y) ≡ c) → bitSteps n (overlay y) ≡ bitSteps n c
 unfolding overlay sparse
 fold-steps n c y h hy hc front =
     let first : ℕ → ℕ = λ d. bitSteps (8 * d + n) c in
@@ -93,20 +93,20 @@ fold-steps n c y h hy hc front =
     ∙ sparse-zero n (littleEndian y) hy in
     sym (xor-cancel (later first) (bitSteps n (overlay y)) whole) ∙ xor-cancel (later first) (bitSteps n c) (sparse-zero n c hc)
 
--- y counts nothing past its n + 266 bytes
-small : (n : ℕ) (y : List ℕ) → n + 266 ≤ length y → ((k : ℕ) → getD y k 0 < 256) → ((k : ℕ) → n + 266 ≤ k → getD y k 0 ≡ 0)
-    → littleEndian y < 2 ^ (8 * (n + 266))
+-- y counts nothing past its n + 290 bytes
+small : (n : ℕ) (y : List ℕ) → n + 290 ≤ length y → ((k : ℕ) → getD y k 0 < 256) → ((k : ℕ) → n + 290 ≤ k → getD y k 0 ≡ 0)
+    → littleEndian y < 2 ^ (8 * (n + 290))
 small n y ly bytes zeros =
-    let t = take (n + 266) y in
-    let lt : length t ≡ n + 266 = length-take-le (n + 266) y ly in
-    let past : (i : ℕ) → n + 266 ≤ i → getD t i 0 ≡ 0 = λ i g. List·getD-eq-default t 0 {n = i} (omega arith) in
+    let t = take (n + 290) y in
+    let lt : length t ≡ n + 290 = length-take-le (n + 290) y ly in
+    let past : (i : ℕ) → n + 290 ≤ i → getD t i 0 ≡ 0 = λ i g. List·getD-eq-default t 0 {n = i} (omega arith) in
     let same : (i : ℕ) → getD y i 0 ≡ getD t i 0 =
-    λ i. ⊎-elim (λ (g : i < n + 266). sym (getD-take (n + 266) y i 0 g)) (λ (g : n + 266 ≤ i). zeros i g ∙ sym (past i g)) (lt-or-ge i (n + 266)) in
-    subst (λ (k : ℕ). k < 2 ^ (8 * (n + 266))) (sym (littleEndian-ext y t same)) (littleEndian-lt (n + 266) y bytes)
+    λ i. ⊎-elim (λ (g : i < n + 290). sym (getD-take (n + 290) y i 0 g)) (λ (g : n + 290 ≤ i). zeros i g ∙ sym (past i g)) (lt-or-ge i (n + 290)) in
+    subst (λ (k : ℕ). k < 2 ^ (8 * (n + 290))) (sym (littleEndian-ext y t same)) (littleEndian-lt (n + 290) y bytes)
 
 -- the same, as a list
 overlaid : List ℕ → List ℕ
-overlaid y = xors (xors (drop 266 y) (xors (drop 143 y) (xors (drop 121 y) (xors (drop 88 y) (xors (drop 71 y) []))))) y
+overlaid y = xors (xors (drop 290 y) (xors (drop 136 y) (xors (drop 113 y) (xors (drop 107 y) (xors (drop 32 y) []))))) y
 
 littleEndian-overlaid : (y : List ℕ) → littleEndian (overlaid y) ≡ overlay y
 unfolding overlaid overlay later xorOver littleEndian
@@ -115,40 +115,40 @@ littleEndian-overlaid y = simp littleEndian-xors
 getD-view : (d : ℕ) (y : List ℕ) (i : ℕ) → getD (drop d y) i 0 ≡ getD y (i + d) 0
 getD-view d y i = getD-drop d y i 0 ∙ ap (λ (k : ℕ). getD y k 0) (add-comm d i)
 
-getD-overlaid : (y : List ℕ) (i : ℕ) → getD (overlaid y) i 0 ≡ bitXor (getD y (i + 266) 0) (taps y i)
+getD-overlaid : (y : List ℕ) (i : ℕ) → getD (overlaid y) i 0 ≡ bitXor (getD y (i + 290) 0) (taps y i)
 unfolding overlaid taps
 getD-overlaid y i = simp (getD-xors, getD-view, xor-zero-r, xor-assoc)
 
-module _ (m y r : List ℕ) (n : ℕ) (lm : length m ≡ n + 266) (lr : length r ≡ 266)
-    (byte : (i : ℕ) → i < n → getD y (i + 266) 0 ≡ bitXor (getD m i 0) (taps y i))
-    (zeros : (k : ℕ) → n + 266 ≤ k → getD y k 0 ≡ 0)
-    (rest : (j : ℕ) → j < 266 → getD r j 0 ≡ bitXor (getD m (n + j) 0) (taps y (n + j))) where
-  early : (i : ℕ) → i < n → getD m i 0 ≡ bitXor (bitXor (getD y (i + 266) 0) (taps y i)) (getD (replicate n 0 ++ r) i 0)
+module _ (m y r : List ℕ) (n : ℕ) (lm : length m ≡ n + 290) (lr : length r ≡ 290)
+    (byte : (i : ℕ) → i < n → getD y (i + 290) 0 ≡ bitXor (getD m i 0) (taps y i))
+    (zeros : (k : ℕ) → n + 290 ≤ k → getD y k 0 ≡ 0)
+    (rest : (j : ℕ) → j < 290 → getD r j 0 ≡ bitXor (getD m (n + j) 0) (taps y (n + j))) where
+  early : (i : ℕ) → i < n → getD m i 0 ≡ bitXor (bitXor (getD y (i + 290) 0) (taps y i)) (getD (replicate n 0 ++ r) i 0)
   early i h =
       sym (
       ap₂ (λ (a b : ℕ). bitXor (bitXor a (taps y i)) b) (byte i h) (List·getD-append (replicate n 0) r 0 i (rw length-replicate h) ∙ getD-replicate n i 0 0 h)
       ∙ xor-zero-r _
       ∙ xor-back (getD m i 0) (taps y i))
 
-  no-taps : (j : ℕ) → 266 ≤ j → taps y (n + j) ≡ 0
+  no-taps : (j : ℕ) → 290 ≤ j → taps y (n + j) ≡ 0
   unfolding taps
   no-taps j h =
-      simp (zeros (n + j + 143) (omega arith), zeros (n + j + 121) (omega arith), zeros (n + j + 88) (omega arith), zeros (n + j + 71) (omega arith), zeros (n + j) (omega arith))
+      simp (zeros (n + j + 136) (omega arith), zeros (n + j + 113) (omega arith), zeros (n + j + 107) (omega arith), zeros (n + j + 32) (omega arith), zeros (n + j) (omega arith))
 
-  late : (j : ℕ) → getD m (n + j) 0 ≡ bitXor (bitXor (getD y (n + j + 266) 0) (taps y (n + j))) (getD (replicate n 0 ++ r) (n + j) 0)
+  late : (j : ℕ) → getD m (n + j) 0 ≡ bitXor (bitXor (getD y (n + j + 290) 0) (taps y (n + j))) (getD (replicate n 0 ++ r) (n + j) 0)
   late j =
       let pad : getD (replicate n 0 ++ r) (n + j) 0 ≡ getD r j 0 =
       ap (λ (k : ℕ). getD (replicate n 0 ++ r) (k + j) 0) (sym (length-replicate n 0)) ∙ getD-append-add (replicate n 0) r j 0 in
-      let gone : getD y (n + j + 266) 0 ≡ 0 = zeros (n + j + 266) (omega arith) in
+      let gone : getD y (n + j + 290) 0 ≡ 0 = zeros (n + j + 290) (omega arith) in
       sym (
       ap₂ (λ (a b : ℕ). bitXor (bitXor a (taps y (n + j))) b) gone pad
       ∙ ⊎-elim
-      (λ (h : j < 266). ap (bitXor (taps y (n + j))) (rest j h ∙ xor-comm (getD m (n + j) 0) (taps y (n + j))) ∙ xor-twice (taps y (n + j)) (getD m (n + j) 0))
-      (λ (h : 266 ≤ j). ap₂ bitXor (no-taps j h) (List·getD-eq-default r 0 {n = j} (omega arith)) ∙ sym (List·getD-eq-default m 0 {n = n + j} (omega arith)))
-      (lt-or-ge j 266))
+      (λ (h : j < 290). ap (bitXor (taps y (n + j))) (rest j h ∙ xor-comm (getD m (n + j) 0) (taps y (n + j))) ∙ xor-twice (taps y (n + j)) (getD m (n + j) 0))
+      (λ (h : 290 ≤ j). ap₂ bitXor (no-taps j h) (List·getD-eq-default r 0 {n = j} (omega arith)) ∙ sym (List·getD-eq-default m 0 {n = n + j} (omega arith)))
+      (lt-or-ge j 290))
 
   abbrev place : ℕ → Type 0
-  place i = getD m i 0 ≡ bitXor (bitXor (getD y (i + 266) 0) (taps y i)) (getD (replicate n 0 ++ r) i 0)
+  place i = getD m i 0 ≡ bitXor (bitXor (getD y (i + 290) 0) (taps y i)) (getD (replicate n 0 ++ r) i 0)
 
   message : littleEndian m ≡ bitXor (overlay y) (littleEndian r * 2 ^ (8 * n))
   message =
@@ -158,26 +158,26 @@ module _ (m y r : List ℕ) (n : ℕ) (lm : length m ≡ n + 266) (lr : length r
       ∙ littleEndian-xors (overlaid y) (replicate n 0 ++ r)
       ∙ ap₂ bitXor (littleEndian-overlaid y) (littleEndian-zeros n r)
 
--- what the fold leaves: the last 266 bytes, with what is put onto them
-pub folded : (m y r : List ℕ) (c n : ℕ) → length m ≡ n + 266 → length r ≡ 266 → n + 266 ≤ length y → c < 2 ^ 32
+-- what the fold leaves: the last 290 bytes, with what is put onto them
+pub folded : (m y r : List ℕ) (c n : ℕ) → length m ≡ n + 290 → length r ≡ 290 → n + 290 ≤ length y → c < 2 ^ 32
     → ((k : ℕ) → getD y k 0 < 256)
-    → ((i : ℕ) → i < n → getD y (i + 266) 0 ≡ bitXor (getD m i 0) (taps y i))
-    → ((k : ℕ) → n + 266 ≤ k → getD y k 0 ≡ 0)
-    → ((d : ℕ) → 71 ≤ d → d ≤ 266 → littleEndian (take d y) ≡ c)
-    → ((j : ℕ) → j < 266 → getD r j 0 ≡ bitXor (getD m (n + j) 0) (taps y (n + j)))
+    → ((i : ℕ) → i < n → getD y (i + 290) 0 ≡ bitXor (getD m i 0) (taps y i))
+    → ((k : ℕ) → n + 290 ≤ k → getD y k 0 ≡ 0)
+    → ((d : ℕ) → 32 ≤ d → d ≤ 290 → littleEndian (take d y) ≡ c)
+    → ((j : ℕ) → j < 290 → getD r j 0 ≡ bitXor (getD m (n + j) 0) (taps y (n + j)))
     → register c m ≡ register 0 r
 folded m y r c n lm lr ly hc bytes byte zeros front rest =
-    let N = 8 * (n + 266) in
+    let N = 8 * (n + 290) in
     let hy : littleEndian y < 2 ^ N = small n y ly bytes zeros in
     let hs : bitSteps N (overlay y) ≡ bitSteps N c = fold-steps N c y (omega arith) hy (lt-of-lt-of-le hc (pow-mono {i = 32} {j = N} (omega arith))) front in
-    let hr : bitSteps N (littleEndian r * 2 ^ (8 * n)) ≡ bitSteps 2128 (littleEndian r) =
-    ap (λ (k : ℕ). bitSteps k (littleEndian r * 2 ^ (8 * n))) {x = N} {y = 8 * n + 2128} (omega arith)
-    ∙ bitSteps-add (8 * n) 2128 (littleEndian r * 2 ^ (8 * n)) ∙ ap (bitSteps 2128) (bitSteps-shift (8 * n) (littleEndian r)) in
+    let hr : bitSteps N (littleEndian r * 2 ^ (8 * n)) ≡ bitSteps 2320 (littleEndian r) =
+    ap (λ (k : ℕ). bitSteps k (littleEndian r * 2 ^ (8 * n))) {x = N} {y = 8 * n + 2320} (omega arith)
+    ∙ bitSteps-add (8 * n) 2320 (littleEndian r * 2 ^ (8 * n)) ∙ ap (bitSteps 2320) (bitSteps-shift (8 * n) (littleEndian r)) in
     register-littleEndian c m
     ∙ ap (λ (k : ℕ). bitSteps (8 * k) (bitXor c (littleEndian m))) lm
     ∙ bitSteps-xor N c (littleEndian m)
     ∙ ap (λ (k : ℕ). bitXor (bitSteps N c) (bitSteps N k)) (message m y r n lm lr byte zeros rest)
     ∙ ap (bitXor (bitSteps N c)) (bitSteps-xor N (overlay y) (littleEndian r * 2 ^ (8 * n)) ∙ ap₂ bitXor hs hr)
-    ∙ xor-twice (bitSteps N c) (bitSteps 2128 (littleEndian r))
+    ∙ xor-twice (bitSteps N c) (bitSteps 2320 (littleEndian r))
     ∙ ap (λ (k : ℕ). bitSteps (8 * k) (littleEndian r)) (sym lr)
     ∙ sym (register-littleEndian 0 r)

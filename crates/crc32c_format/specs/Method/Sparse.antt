@@ -1,4 +1,4 @@
--- Method, laws: the sparse multiple of the polynomial, 1 + x^(8 * 71) + x^(8 * 88) + x^(8 * 121) + x^(8 * 143) + x^(8 * 266).
+-- Method, laws: the sparse multiple of the polynomial, 1 + x^(8 * 32) + x^(8 * 107) + x^(8 * 113) + x^(8 * 136) + x^(8 * 290).
 use mathlib.Core.Path.{_≡_, refl, sym, ap, ap₂, _∙_, subst}
 use mathlib.Core.List.{List, [], _∷_}
 use Prim.Native.Nat.{ℕ, zero, suc, _+_, _*_, _/_, _%_, _^_, _<_, _≤_}
@@ -27,23 +27,23 @@ xorOver-steps n f (d ∷ ds) = bitSteps-xor n (f d) (xorOver f ds) ∙ ap (bitXo
 
 -- the same over the five distances, in bytes, that are not 0
 unfoldable pub later : (ℕ → ℕ) → ℕ
-later f = xorOver f (266 ∷ 143 ∷ 121 ∷ 88 ∷ 71 ∷ [])
+later f = xorOver f (290 ∷ 136 ∷ 113 ∷ 107 ∷ 32 ∷ [])
 
 pub later-xor : (f g : ℕ → ℕ) → later (λ d. bitXor (f d) (g d)) ≡ bitXor (later f) (later g)
 unfolding later
-later-xor f g = xorOver-xor f g (266 ∷ 143 ∷ 121 ∷ 88 ∷ 71 ∷ [])
+later-xor f g = xorOver-xor f g (290 ∷ 136 ∷ 113 ∷ 107 ∷ 32 ∷ [])
 
 pub later-steps : (n : ℕ) (f : ℕ → ℕ) → bitSteps n (later f) ≡ later (λ d. bitSteps n (f d))
 unfolding later
-later-steps n f = xorOver-steps n f (266 ∷ 143 ∷ 121 ∷ 88 ∷ 71 ∷ [])
+later-steps n f = xorOver-steps n f (290 ∷ 136 ∷ 113 ∷ 107 ∷ 32 ∷ [])
 
-pub later-eq : (f g : ℕ → ℕ) → ((d : ℕ) → 71 ≤ d → d ≤ 266 → f d ≡ g d) → later f ≡ later g
+pub later-eq : (f g : ℕ → ℕ) → ((d : ℕ) → 32 ≤ d → d ≤ 290 → f d ≡ g d) → later f ≡ later g
 unfolding later xorOver
 later-eq f g h =
-    ap₂ bitXor (h 266 (omega arith) (omega arith))
-    (ap₂ bitXor (h 143 (omega arith) (omega arith))
-    (ap₂ bitXor (h 121 (omega arith) (omega arith))
-    (ap₂ bitXor (h 88 (omega arith) (omega arith)) (ap (λ (x : ℕ). bitXor x 0) (h 71 (omega arith) (omega arith))))))
+    ap₂ bitXor (h 290 (omega arith) (omega arith))
+    (ap₂ bitXor (h 136 (omega arith) (omega arith))
+    (ap₂ bitXor (h 113 (omega arith) (omega arith))
+    (ap₂ bitXor (h 107 (omega arith) (omega arith)) (ap (λ (x : ℕ). bitXor x 0) (h 32 (omega arith) (omega arith))))))
 
 -- what is left of g after n bits, with what is left of it after n and each of the distances: the multiple, times g
 unfoldable pub sparse : ℕ → ℕ → ℕ

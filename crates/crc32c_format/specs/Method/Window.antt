@@ -16,30 +16,30 @@ use Rattle.crc32c_format.specs.Method.Lists.{lt-or-ge}
 use Rattle.crc32c_format.specs.Method.Folding.{littleEndian-ext, folded}
 
 -- a store past the taps
-taps-set : (z : List ℕ) (p v j : ℕ) → j + 143 < p → taps (set z p v) j ≡ taps z j
+taps-set : (z : List ℕ) (p v j : ℕ) → j + 136 < p → taps (set z p v) j ≡ taps z j
 unfolding taps
 taps-set z p v j h =
     simp (
-      getD-set-other z p (j + 143) v 0 (λ e. omega arith),
-      getD-set-other z p (j + 121) v 0 (λ e. omega arith),
-      getD-set-other z p (j + 88) v 0 (λ e. omega arith),
-      getD-set-other z p (j + 71) v 0 (λ e. omega arith),
+      getD-set-other z p (j + 136) v 0 (λ e. omega arith),
+      getD-set-other z p (j + 113) v 0 (λ e. omega arith),
+      getD-set-other z p (j + 107) v 0 (λ e. omega arith),
+      getD-set-other z p (j + 32) v 0 (λ e. omega arith),
       getD-set-other z p j v 0 (λ e. omega arith),
     )
 
 -- one byte more is folded
-pub fold-step : (m y z : List ℕ) (i : ℕ) → Folded m y z i → i + 266 < length z → Folded m y (set z (i + 266) (bitXor (getD m i 0) (taps z i))) (i + 1)
+pub fold-step : (m y z : List ℕ) (i : ℕ) → Folded m y z i → i + 290 < length z → Folded m y (set z (i + 290) (bitXor (getD m i 0) (taps z i))) (i + 1)
 fold-step m y z i f h =
     let v = bitXor (getD m i 0) (taps z i) in
     record {
-      same = length-set z (i + 266) v ∙ f .same;
+      same = length-set z (i + 290) v ∙ f .same;
       byte = λ j l. ⊎-elim
-          (λ (g : j < i). getD-set-other z (i + 266) (j + 266) v 0 (λ e. omega arith) ∙ f .byte j g ∙ ap (bitXor (getD m j 0)) (sym (taps-set z (i + 266) v j (omega arith))))
-          (λ (g : i ≤ j). subst (λ (k : ℕ). getD (set z (i + 266) v) (k + 266) 0 ≡ bitXor (getD m k 0) (taps (set z (i + 266) v) k)) {x = i} {y = j} (omega arith)
-          (getD-set-same z (i + 266) v 0 h ∙ ap (bitXor (getD m i 0)) (sym (taps-set z (i + 266) v i (omega arith)))))
+          (λ (g : j < i). getD-set-other z (i + 290) (j + 290) v 0 (λ e. omega arith) ∙ f .byte j g ∙ ap (bitXor (getD m j 0)) (sym (taps-set z (i + 290) v j (omega arith))))
+          (λ (g : i ≤ j). subst (λ (k : ℕ). getD (set z (i + 290) v) (k + 290) 0 ≡ bitXor (getD m k 0) (taps (set z (i + 290) v) k)) {x = i} {y = j} (omega arith)
+          (getD-set-same z (i + 290) v 0 h ∙ ap (bitXor (getD m i 0)) (sym (taps-set z (i + 290) v i (omega arith)))))
           (lt-or-ge j i);
-      before = λ k l. getD-set-other z (i + 266) k v 0 (λ e. omega arith) ∙ f .before k l;
-      after = λ k l. getD-set-other z (i + 266) k v 0 (λ e. omega arith) ∙ f .after k (omega arith);
+      before = λ k l. getD-set-other z (i + 290) k v 0 (λ e. omega arith) ∙ f .before k l;
+      after = λ k l. getD-set-other z (i + 290) k v 0 (λ e. omega arith) ∙ f .after k (omega arith);
     }
 
 -- the four bytes of a register, before a list
@@ -84,7 +84,7 @@ littleEndian-front n c d y l u h =
     ∙ littleEndian-registerBytes c
 
 -- the register after what the fold leaves is the register after the message
-pub register-fold : (z c n : ℕ) (m y r : List ℕ) → Folded m (registerBytes c (replicate z 0)) y n → Rest m y r n → length m ≡ n + 266 → n + 266 ≤ length y → c < 2 ^ 32
+pub register-fold : (z c n : ℕ) (m y r : List ℕ) → Folded m (registerBytes c (replicate z 0)) y n → Rest m y r n → length m ≡ n + 290 → n + 290 ≤ length y → c < 2 ^ 32
     → register 0 r ≡ register c m
 register-fold z c n m y r f e lm ly hc =
     sym (folded m y r c n lm (e .len) ly hc (e .bytes) (f .byte)
