@@ -64,42 +64,6 @@ module _ (b : List ℕ) (t u : ℕ) where
 
 -- ---- adding
 
-module _ (b : List ℕ) (t u : ℕ) (e : Entry) (bad : Bool) where
-  -- BadPlace comes first
-  pub add-bad-place : badState b t u ≡ true → add b t u e bad ≡ refused BadPlace
-  unfolding add
-  add-bad-place h = rw h
-
-  -- then WrongKind
-  pub add-wrong-kind : badState b t u ≡ false → (t ≡ typeByte (kindFor e) → ⊥) → add b t u e bad ≡ refused WrongKind
-  unfolding add
-  add-wrong-kind h k = rw (h, ne-eqb t (typeByte (kindFor e)) k)
-
-  module _ (h : badState b t u ≡ false) (k : t ≡ typeByte (kindFor e)) where
-    -- then BadList
-    pub add-bad-list : bad ≡ true → add b t u e bad ≡ refused BadList
-    unfolding add
-    add-bad-list l = rw (h, eq-eqb t (typeByte (kindFor e)) k, l)
-
-    -- then TooLong
-    pub add-too-long : bad ≡ false → 65536 < u + length (entryBytes b u e) → add b t u e bad ≡ refused (TooLong (offset u))
-    unfolding add
-    add-too-long l m = rw (h, eq-eqb t (typeByte (kindFor e)) k, l, lt-ltb 65536 (u + length (entryBytes b u e)) m)
-
-    -- then NoRoom
-    pub add-no-room : bad ≡ false → u + length (entryBytes b u e) ≤ 65536 → length b < u + length (entryBytes b u e)
-        → add b t u e bad ≡ refused (NoRoom (offset u))
-    unfolding add
-    add-no-room l m n =
-        rw (h, eq-eqb t (typeByte (kindFor e)) k, l, le-ltb 65536 (u + length (entryBytes b u e)) m, lt-ltb (length b) (u + length (entryBytes b u e)) n)
-
-    -- else the bytes used are those before and those of the entry
-    pub add-used : bad ≡ false → u + length (entryBytes b u e) ≤ 65536 → u + length (entryBytes b u e) ≤ length b
-        → add b t u e bad ≡ used (u + length (entryBytes b u e))
-    unfolding add
-    add-used l m n =
-        rw (h, eq-eqb t (typeByte (kindFor e)) k, l, le-ltb 65536 (u + length (entryBytes b u e)) m, le-ltb (length b) (u + length (entryBytes b u e)) n)
-
 -- what is known of an addition that is not refused
 pub record Accepted (b : List ℕ) (t u : ℕ) (e : Entry) (bad : Bool) (n : ℕ) : Type 0 where
   pub kind : t ≡ typeByte (kindFor e)
