@@ -2,7 +2,7 @@
 ghost use mathlib.Core.Path.{_≡_};
 ghost use Prim.Native.Nat.{_+_, _*_, _≤_};
 ghost use lib.Dec.{eqb};
-ghost use lib.ListN.{length, take, drop};
+ghost use lib.ListN.{length, take};
 ghost use lib.Seq.{sets};
 ghost use Rattle.body_format.specs.Building.{textsBytes, textListBytes, cutTexts, total, badList};
 ghost use Rattle.body_builder.specs.Sizes.{heads, listSize};

@@ -1,6 +1,6 @@
 -- Four bytes, from what is left of each.
 use borrow.Author.Needs.{needs}
-use mathlib.Core.Path.{_≡_, ap, _∙_}
+use mathlib.Core.Path.{ap, _∙_}
 use Rattle.crc32c_format.specs.Crc.{bitSteps}
 use Rattle.crc32c_format.specs.Method.Parts.{left-four}
 use Rattle.crc32c.proofs.four_alone.Statement.{statement}
