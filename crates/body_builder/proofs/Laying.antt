@@ -5,12 +5,13 @@ use Prim.Native.Nat.{ℕ, _+_, _-_, _/_, _≤_, _<_}
 use native.Mathlib.Omega.{arith}
 use lib.ListN.{length, getD, take, drop, set, length-set, drop-of-length-le, length-append}
 use lib.Seq.{sets, length-sets}
+use Rattle.copying.specs.CopiedLaws.{part-length}
 use Rattle.varint.specs.Put.{putAt, putEnd}
 use Rattle.varint.specs.PutLaws.{sets-append}
 use Rattle.varint.specs.Uvarint.{uvarint}
 use Rattle.body_format.specs.Building.{textBytes, textsBytes, textListBytes, cutTexts, total}
 use Rattle.body_format.specs.Laws.Strings.{length-cut, cut-step, total-step}
-use Rattle.body_builder.proofs.Putting.{Put, put-first, room-then, put-then, part-length}
+use Rattle.body_builder.proofs.Putting.{Put, put-first, room-then, put-then}
 
 -- the strings from number i on, whose bytes start at `from`
 abbrev rest : List ℕ → List ℕ → ℕ → ℕ → List ℕ

@@ -3,8 +3,8 @@ use mathlib.Core.Path.{_≡_, ap₂, _∙_}
 use mathlib.Core.List.{List, _++_}
 use Prim.Native.Nat.{ℕ, _+_, _≤_}
 use native.Mathlib.Omega.{arith}
-use lib.ListN.{length, take, drop, length-append, length-drop}
-use lib.Seq.{sets, length-sets, length-take-le}
+use lib.ListN.{length, length-append}
+use lib.Seq.{sets, length-sets}
 use Rattle.varint.specs.Put.{putAt, putEnd}
 use Rattle.varint.specs.PutLaws.{put-fits, end-fits, sets-append}
 
@@ -38,7 +38,3 @@ put-three d d₁ d₂ d₃ at p q r a b c h e f g i j k =
     let two : Put d₁ p b d₂ q = put-first d₁ d₂ p q b c room g i in
     let three : Put d₂ q c d₃ r = put-last d₂ d₃ q r c (room-then d₁ d₂ p q b c room two) j k in
     put-then d d₁ at p a (b ++ c) h d₃ r one (put-then d₁ d₂ p q b c room d₃ r two three)
-
--- a part of a list
-pub part-length : (s : List ℕ) (from n : ℕ) → from + n ≤ length s → length (take n (drop from s)) ≡ n
-part-length s from n h = length-take-le n (drop from s) (omega (arith, length-drop from s))

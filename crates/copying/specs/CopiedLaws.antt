@@ -1,4 +1,4 @@
--- Laws of copying: where both slices are long enough, and where one is not; and of bytes that are put down one after another.
+-- Laws of copying: where both slices are long enough, and where one is not; of bytes that are put down one after another; and of a part of a list.
 -- Assumes nothing.
 use Prim.Native.Nat.{ℕ, suc, _+_, _≤_, _<_}
 use mathlib.Core.Bool.{Bool, true, false}
@@ -8,8 +8,8 @@ use native.Mathlib.Nat.{add-zero}
 use native.Mathlib.Omega.{arith}
 use borrow.Author.Tests.{le-leb, lt-leb}
 use lib.Dec.{leb}
-use lib.ListN.{length, take, drop, set}
-use lib.Seq.{sets}
+use lib.ListN.{length, take, drop, set, length-drop}
+use lib.Seq.{sets, length-take-le}
 use Rattle.copying.specs.Copied.{copied}
 
 module _ (s : List ℕ) (from n : ℕ) (t : List ℕ) (at : ℕ) where
@@ -34,3 +34,7 @@ module _ (s : List ℕ) (from n : ℕ) (t : List ℕ) (at : ℕ) where
 pub sets-append : (a b s : List ℕ) (i : ℕ) → sets (sets s i a) (i + length a) b ≡ sets s i (a ++ b)
 sets-append [] b s i = rw add-zero
 sets-append (x ∷ a) b s i = let e : i + suc (length a) ≡ suc i + length a = omega arith in rw e (sets-append a b (set s i x) (suc i))
+
+-- the length of a part of a list
+pub part-length : (s : List ℕ) (from n : ℕ) → from + n ≤ length s → length (take n (drop from s)) ≡ n
+part-length s from n h = length-take-le n (drop from s) (omega (arith, length-drop from s))

@@ -74,7 +74,12 @@ fn write_and_tell(
 ) -> u32
     ensures { λ r. ⌜ (r ≡ writeCode (writer (lentSum (now (table .entry))) (now (segment .entry)) place (now (payload .entry)) .answer)) × (now (out .exit) ≡ writeOut place (writer (lentSum (now (table .entry))) (now (segment .entry)) place (now (payload .entry)) .answer)) × (now (segment .exit) ≡ writer (lentSum (now (table .entry))) (now (segment .entry)) place (now (payload .entry)) .slice) ⌝ }
 {
-    let answer = segment::write_with_table(&table[0..], segment, Offset(place), &payload[0..]);
+    let answer = segment_writer::write_with_table(
+        &table[0..],
+        segment,
+        Offset(place),
+        &payload[0..],
+    );
     tell_write(answer, place, out)
 }
 

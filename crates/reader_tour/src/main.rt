@@ -59,7 +59,7 @@ fn write_record(segment: &mut [u8], place: Offset, bytes: &[u8], length: usize) 
     if bytes.len() < length {
         return place;
     }
-    let answer = segment::write(segment, place, &bytes[..length]);
+    let answer = segment_writer::write(segment, place, &bytes[..length]);
     match answer {
         WriteAnswer::Next(next) => next,
         WriteAnswer::Refused(_) => place,

@@ -124,7 +124,7 @@ fn write(slice: &mut [u8], place: usize, count: usize) {
     print::space();
     print::number(count as u64);
     print::text(b" -> ");
-    let answer = segment::write(slice, Offset(place), &bytes[..count]);
+    let answer = segment_writer::write(slice, Offset(place), &bytes[..count]);
     match answer {
         WriteAnswer::Next(next) => {
             print::text(b"next ");
@@ -301,7 +301,7 @@ pub(crate) fn cuts() {
     let mut slice = [0u8; 32768];
     let mut buffer = [0u8; 65536];
     let switch = SWITCH;
-    segment::write(&mut slice, Offset(0), &switch);
+    segment_writer::write(&mut slice, Offset(0), &switch);
     cut(&slice, 44, &mut buffer);
     cut(&slice, 43, &mut buffer);
     cut(&slice, 7, &mut buffer);
