@@ -2,6 +2,7 @@
 
 use crate::refusal::*;
 use crate::varint::{self, Fault};
+use std::mem::take;
 
 /// The longest body that is built.
 pub const BODY_MAX: usize = 65_536;
@@ -40,10 +41,11 @@ struct First {
 impl First {
     /// Those in bytes 1 to 16.
     fn of(body: &[u8]) -> First {
-        let eight = |place: usize| body[place..place + 8].try_into().expect("eight bytes");
+        let (id, time) = body[1..ROWS].split_at(8);
+        let eight = |bytes: &[u8]| bytes.try_into().expect("eight bytes");
         First {
-            id: SeriesId(u64::from_be_bytes(eight(1))),
-            time: Timestamp(i64::from_be_bytes(eight(9))),
+            id: SeriesId(u64::from_be_bytes(eight(id))),
+            time: Timestamp(i64::from_be_bytes(eight(time))),
         }
     }
 
@@ -106,29 +108,57 @@ pub fn start(buffer: &mut [u8], kind: u8) -> Result<State, Refusal> {
     Ok(State { kind, used: 1 })
 }
 
-/// Adds an entry. Refusals in order: 2, 26, 25, 9, 11.
+/// Adds an entry, written straight into the buffer once its size is known to fit. Refusals in
+/// order: 2, 26, 25, 9, 11.
 pub fn add(buffer: &mut [u8], state: State, entry: &NewEntry) -> Result<State, Refusal> {
     let State { kind, used } = state;
     check_state(buffer, state)?;
     if kind != entry.kind() {
         return refuse(WRONG_KIND, 0);
     }
-    if !entry.strings().is_none_or(Strings::add_up) {
-        return refuse(BAD_LIST, 0);
-    }
-    let bytes = entry.encode(&buffer[..used]);
-    let new_used = used + bytes.len();
-    if new_used > BODY_MAX {
-        return refuse(TOO_LONG, used);
-    }
-    if new_used > buffer.len() {
-        return refuse(NO_ROOM, used);
-    }
-    buffer[used..new_used].copy_from_slice(&bytes);
-    Ok(State {
-        kind,
-        used: new_used,
-    })
+    let (body, room) = buffer.split_at_mut(used);
+    let size = match entry {
+        NewEntry::Series(id, strings) => {
+            let size = 8 + strings.size()?;
+            let mut writer = Writer::new(room, used, size)?;
+            writer.eight(id.0);
+            writer.strings(strings);
+            size
+        }
+        NewEntry::Sample(sample) => {
+            let row = Row::new(sample, body);
+            let size = row.size();
+            Writer::new(room, used, size)?.row(&row);
+            size
+        }
+        NewEntry::Tombstone(id, min, max) => {
+            let (min, max) = (varint::zigzag(min.0), varint::zigzag(max.0));
+            let size = 8 + varint::uvarint_length(min) + varint::uvarint_length(max);
+            let mut writer = Writer::new(room, used, size)?;
+            writer.eight(id.0);
+            writer.uvarint(min);
+            writer.uvarint(max);
+            size
+        }
+        NewEntry::Exemplar(sample, strings) => {
+            let row = Row::new(sample, body);
+            let size = row.size() + strings.size()?;
+            let mut writer = Writer::new(room, used, size)?;
+            writer.row(&row);
+            writer.strings(strings);
+            size
+        }
+        NewEntry::Metadata(id, metric_type, strings) => {
+            let size = varint::uvarint_length(id.0) + 1 + strings.size()?;
+            let mut writer = Writer::new(room, used, size)?;
+            writer.uvarint(id.0);
+            writer.bytes(&[*metric_type]);
+            writer.strings(strings);
+            size
+        }
+    };
+    let used = used + size;
+    Ok(State { kind, used })
 }
 
 /// "It is BadPlace if these are 0, more than the buffer has, 2 to 16 for types 2 and 4, or if the
@@ -142,26 +172,6 @@ fn check_state(buffer: &[u8], state: State) -> Result<(), Refusal> {
     Ok(())
 }
 
-impl Strings<'_> {
-    /// An even number of strings whose lengths add up to the slice.
-    fn add_up(&self) -> bool {
-        let sum: u128 = self.lengths.iter().map(|&length| u128::from(length)).sum();
-        self.lengths.len().is_multiple_of(2) && sum == self.text.len() as u128
-    }
-
-    /// The number of pairs, then each string with its length.
-    fn encode(&self, bytes: &mut Vec<u8>) {
-        varint::write_uvarint(self.lengths.len() as u64 / 2, bytes);
-        let mut rest = self.text;
-        for &length in self.lengths {
-            let (string, later) = rest.split_at(length as usize);
-            varint::write_uvarint(length, bytes);
-            bytes.extend(string);
-            rest = later;
-        }
-    }
-}
-
 impl NewEntry<'_> {
     fn kind(&self) -> u8 {
         match self {
@@ -172,61 +182,114 @@ impl NewEntry<'_> {
             NewEntry::Metadata(..) => METADATA,
         }
     }
+}
 
-    fn strings(&self) -> Option<&Strings<'_>> {
-        match self {
-            NewEntry::Series(_, strings)
-            | NewEntry::Exemplar(_, strings)
-            | NewEntry::Metadata(_, _, strings) => Some(strings),
-            NewEntry::Sample(..) | NewEntry::Tombstone(..) => None,
+impl Strings<'_> {
+    /// The bytes that the number of pairs and the strings with their lengths take. Refusal: 25, if
+    /// their number is odd or their lengths do not add up to the slice.
+    fn size(&self) -> Result<usize, Refusal> {
+        let mut size = varint::uvarint_length(self.pairs());
+        let mut sum = 0u128;
+        for &length in self.lengths {
+            size += varint::uvarint_length(length);
+            sum += u128::from(length);
         }
+        if !self.lengths.len().is_multiple_of(2) || sum != self.text.len() as u128 {
+            return refuse(BAD_LIST, 0);
+        }
+        Ok(size + self.text.len())
     }
 
-    /// The entry's bytes after the body so far.
-    fn encode(&self, body: &[u8]) -> Vec<u8> {
-        let mut bytes = Vec::new();
-        match self {
-            NewEntry::Series(id, strings) => {
-                bytes.extend(id.0.to_be_bytes());
-                strings.encode(&mut bytes);
-            }
-            NewEntry::Sample(sample) => sample.encode(body, &mut bytes),
-            NewEntry::Tombstone(id, min, max) => {
-                bytes.extend(id.0.to_be_bytes());
-                varint::write_varint(min.0, &mut bytes);
-                varint::write_varint(max.0, &mut bytes);
-            }
-            NewEntry::Exemplar(sample, strings) => {
-                sample.encode(body, &mut bytes);
-                strings.encode(&mut bytes);
-            }
-            NewEntry::Metadata(id, metric_type, strings) => {
-                varint::write_uvarint(id.0, &mut bytes);
-                bytes.push(*metric_type);
-                strings.encode(&mut bytes);
-            }
-        }
-        bytes
+    fn pairs(&self) -> u64 {
+        self.lengths.len() as u64 / 2
     }
 }
 
-impl Sample {
-    /// A row, with the first id and timestamp before it if the body has none yet.
-    fn encode(&self, body: &[u8], bytes: &mut Vec<u8>) {
-        let first = if body.len() == 1 {
-            bytes.extend(self.id.0.to_be_bytes());
-            bytes.extend(self.time.0.to_be_bytes());
-            First {
-                id: self.id,
-                time: self.time,
-            }
-        } else {
-            First::of(body)
+/// A row as it is written.
+struct Row {
+    /// Written before it if the body has none yet.
+    first: Option<First>,
+    id_delta: u64,
+    time_delta: u64,
+    bits: u64,
+}
+
+impl Row {
+    fn new(sample: &Sample, body: &[u8]) -> Row {
+        let Sample { id, time, bits } = *sample;
+        let (first, (id_delta, time_delta)) = match body.len() {
+            1 => (Some(First { id, time }), (0, 0)),
+            _ => (None, First::of(body).deltas_to(id, time)),
         };
-        let (id_delta, time_delta) = first.deltas_to(self.id, self.time);
-        varint::write_uvarint(id_delta, bytes);
-        varint::write_uvarint(time_delta, bytes);
-        bytes.extend(self.bits.to_be_bytes());
+        Row {
+            first,
+            id_delta,
+            time_delta,
+            bits,
+        }
+    }
+
+    fn size(&self) -> usize {
+        let first = if self.first.is_some() { 16 } else { 0 };
+        let id_delta = varint::uvarint_length(self.id_delta);
+        let time_delta = varint::uvarint_length(self.time_delta);
+        first + id_delta + time_delta + 8
+    }
+}
+
+/// Writes one field after the other; it holds the room left. What a row needs is inlined, so that
+/// this stays in registers.
+struct Writer<'a>(&'a mut [u8]);
+
+impl<'a> Writer<'a> {
+    /// Over the first bytes of the room after those used. Refusals in order: 9, 11.
+    fn new(room: &'a mut [u8], used: usize, size: usize) -> Result<Self, Refusal> {
+        if used + size > BODY_MAX {
+            return refuse(TOO_LONG, used);
+        }
+        match room.get_mut(..size) {
+            Some(room) => Ok(Writer(room)),
+            None => refuse(NO_ROOM, used),
+        }
+    }
+
+    fn bytes(&mut self, bytes: &[u8]) {
+        let (front, left) = take(&mut self.0).split_at_mut(bytes.len());
+        front.copy_from_slice(bytes);
+        self.0 = left;
+    }
+
+    fn eight(&mut self, number: u64) {
+        self.bytes(&number.to_be_bytes());
+    }
+
+    #[inline(always)]
+    fn uvarint(&mut self, number: u64) {
+        let length = varint::put_uvarint(number, self.0);
+        self.0 = &mut take(&mut self.0)[length..];
+    }
+
+    /// The number of pairs, then each string with its length.
+    fn strings(&mut self, strings: &Strings) {
+        self.uvarint(strings.pairs());
+        let mut rest = strings.text;
+        for &length in strings.lengths {
+            let (string, later) = rest.split_at(length as usize);
+            self.uvarint(length);
+            self.bytes(string);
+            rest = later;
+        }
+    }
+
+    #[inline(always)]
+    fn row(&mut self, row: &Row) {
+        if let Some(first) = row.first {
+            self.eight(first.id.0);
+            self.eight(first.time.0 as u64);
+        }
+        self.uvarint(row.id_delta);
+        self.uvarint(row.time_delta);
+        self.eight(row.bits);
     }
 }
 
@@ -253,10 +316,10 @@ pub struct Entry {
 
 /// The number of entries. Refusals in order: 21, 20, then the first fault from the left.
 pub fn check(body: &[u8]) -> Result<usize, Refusal> {
-    let mut place = 1;
+    let mut cursor = Cursor::at_entry(body, 1)?;
     let mut count = 0;
-    while let Some(entry) = entry_at(body, place)? {
-        place = entry.after;
+    while !cursor.rest.is_empty() {
+        cursor.entry()?;
         count += 1;
     }
     Ok(count)
@@ -264,49 +327,37 @@ pub fn check(body: &[u8]) -> Result<usize, Refusal> {
 
 /// The entry at a place; `None` is a plain end. Refusals in order: 21, 20, 2, then the fault.
 pub fn entry_at(body: &[u8], place: usize) -> Result<Option<Entry>, Refusal> {
-    let kind = kind_of(body)?;
-    let inside_first = has_rows(kind) && (2..ROWS).contains(&place);
-    if place == 0 || place > body.len() || inside_first {
-        return refuse(BAD_PLACE, 0);
-    }
-    let mut cursor = Cursor { body, at: place };
-    if has_rows(kind) && place == 1 && body.len() > 1 {
-        cursor.eight()?;
-        cursor.eight()?;
-    }
-    if cursor.at == body.len() {
+    let mut cursor = Cursor::at_entry(body, place)?;
+    if cursor.rest.is_empty() {
         return Ok(None);
     }
-    cursor.entry(kind).map(Some)
+    cursor.entry().map(Some)
 }
 
 /// The start and the length of the string at a place. Refusals in order: 21, 20, 2, then the fault.
 pub fn string_at(body: &[u8], place: usize) -> Result<(usize, usize), Refusal> {
-    kind_of(body)?;
-    if place == 0 || place > body.len() {
-        return refuse(BAD_PLACE, 0);
-    }
-    Cursor { body, at: place }.string()
+    let mut cursor = Cursor::at(body, place)?;
+    let string = cursor.string()?;
+    Ok((cursor.place() - string.len(), string.len()))
 }
 
-/// Fills the first entries of the list from a samples body and answers their number. Refusals in
-/// order: 21, 20, 26, the first fault from the left, 24.
+/// Fills the first entries of the list from a samples body and answers their number. The body is
+/// walked twice, since a refusal changes no entry of the list. Refusals in order: 21, 20, 26, the
+/// first fault from the left, 24.
 pub fn fill_samples(body: &[u8], list: &mut [Sample]) -> Result<usize, Refusal> {
     if kind_of(body)? != SAMPLES {
         return refuse(WRONG_KIND, 0);
     }
-    let mut samples = Vec::new();
-    let mut place = 1;
-    while let Some(entry) = entry_at(body, place)? {
-        let Entry { id, time, bits, .. } = entry;
-        samples.push(Sample { id, time, bits });
-        place = entry.after;
-    }
-    let Some(filled) = list.get_mut(..samples.len()) else {
+    let count = check(body)?;
+    let Some(filled) = list.get_mut(..count) else {
         return refuse(LIST_FULL, 0);
     };
-    filled.copy_from_slice(&samples);
-    Ok(samples.len())
+    let mut cursor = Cursor::at_entry(body, 1)?;
+    for sample in filled {
+        let Entry { id, time, bits, .. } = cursor.entry()?;
+        *sample = Sample { id, time, bits };
+    }
+    Ok(count)
 }
 
 /// The body's type. Refusals in order: 21, 20.
@@ -321,115 +372,127 @@ fn kind_of(body: &[u8]) -> Result<u8, Refusal> {
 /// Reads one field after the other; a fault is reported at the field's first byte.
 struct Cursor<'a> {
     body: &'a [u8],
-    at: usize,
+    kind: u8,
+    /// The bytes that are not read yet.
+    rest: &'a [u8],
 }
 
-impl Cursor<'_> {
-    fn rest(&self) -> &[u8] {
-        &self.body[self.at..]
+impl<'a> Cursor<'a> {
+    /// At a place of the body. Refusals in order: 21, 20, 2.
+    fn at(body: &'a [u8], place: usize) -> Result<Self, Refusal> {
+        let kind = kind_of(body)?;
+        match body.get(place..) {
+            Some(rest) if place > 0 => Ok(Cursor { body, kind, rest }),
+            _ => refuse(BAD_PLACE, 0),
+        }
+    }
+
+    /// At a place where an entry may begin; place 1 of types 2 and 4 is before the first id and the
+    /// first timestamp, which are passed. Refusals in order: 21, 20, 2, then the fault.
+    fn at_entry(body: &'a [u8], place: usize) -> Result<Self, Refusal> {
+        let mut cursor = Cursor::at(body, place)?;
+        if has_rows(cursor.kind) && place < ROWS {
+            if place > 1 {
+                return refuse(BAD_PLACE, 0);
+            }
+            if body.len() > 1 {
+                cursor.eight()?;
+                cursor.eight()?;
+            }
+        }
+        Ok(cursor)
+    }
+
+    fn place(&self) -> usize {
+        self.body.len() - self.rest.len()
     }
 
     fn byte(&mut self) -> Result<u8, Refusal> {
-        let Some(&byte) = self.rest().first() else {
-            return refuse(SHORT, self.at);
+        let Some((&byte, rest)) = self.rest.split_first() else {
+            return refuse(SHORT, self.place());
         };
-        self.at += 1;
+        self.rest = rest;
         Ok(byte)
     }
 
     fn eight(&mut self) -> Result<u64, Refusal> {
-        let Some(&bytes) = self.rest().first_chunk() else {
-            return refuse(SHORT, self.at);
+        let Some((&bytes, rest)) = self.rest.split_first_chunk() else {
+            return refuse(SHORT, self.place());
         };
-        self.at += 8;
+        self.rest = rest;
         Ok(u64::from_be_bytes(bytes))
     }
 
+    /// Most numbers take one byte: that comes first.
     fn uvarint(&mut self) -> Result<u64, Refusal> {
-        match varint::read_uvarint(self.rest()) {
+        if let [byte @ ..=0x7F, rest @ ..] = self.rest {
+            self.rest = rest;
+            return Ok(u64::from(*byte));
+        }
+        match varint::read_uvarint(self.rest) {
             Ok((number, length)) => {
-                self.at += length;
+                self.rest = &self.rest[length..];
                 Ok(number)
             }
-            Err(Fault::Short) => refuse(SHORT, self.at),
-            Err(Fault::BadVarint) => refuse(BAD_VARINT, self.at),
+            Err(Fault::Short) => refuse(SHORT, self.place()),
+            Err(Fault::BadVarint) => refuse(BAD_VARINT, self.place()),
         }
     }
 
     fn varint(&mut self) -> Result<i64, Refusal> {
-        self.uvarint().map(varint::unzigzag)
+        Ok(varint::unzigzag(self.uvarint()?))
     }
 
     /// "A string with its length is one field."
-    fn string(&mut self) -> Result<(usize, usize), Refusal> {
-        let field = self.at;
+    fn string(&mut self) -> Result<&'a [u8], Refusal> {
+        let field = self.place();
         let length = self.uvarint()?;
-        let start = self.at;
-        if length > self.rest().len() as u64 {
+        if length > self.rest.len() as u64 {
             return refuse(SHORT, field);
         }
-        self.at += length as usize;
-        Ok((start, length as usize))
+        let (string, rest) = self.rest.split_at(length as usize);
+        self.rest = rest;
+        Ok(string)
     }
 
-    fn entry(&mut self, kind: u8) -> Result<Entry, Refusal> {
+    /// Inlined, so that each caller keeps the cursor in registers and makes only what it uses.
+    #[inline(always)]
+    fn entry(&mut self) -> Result<Entry, Refusal> {
         let mut entry = Entry {
-            kind,
+            kind: self.kind,
             ..Entry::default()
         };
-        match kind {
-            SERIES => self.series(&mut entry)?,
-            TOMBSTONES => self.tombstone(&mut entry)?,
-            METADATA => self.metadata(&mut entry)?,
-            _ => self.row(&mut entry)?,
+        match self.kind {
+            SERIES => entry.id = SeriesId(self.eight()?),
+            TOMBSTONES => {
+                entry.id = SeriesId(self.eight()?);
+                entry.time = Timestamp(self.varint()?);
+                entry.max = Timestamp(self.varint()?);
+            }
+            METADATA => {
+                entry.id = SeriesId(self.uvarint()?);
+                entry.metric_type = self.byte()?;
+            }
+            _ => {
+                let (id_delta, time_delta) = (self.uvarint()?, self.uvarint()?);
+                (entry.id, entry.time) = First::of(self.body).plus(id_delta, time_delta);
+                entry.bits = self.eight()?;
+            }
         }
-        if kind == SAMPLES || kind == TOMBSTONES {
-            entry.strings = self.at;
+        if self.kind == SAMPLES || self.kind == TOMBSTONES {
+            entry.strings = self.place();
         } else {
-            self.pairs(&mut entry)?;
+            let pairs = self.uvarint()?;
+            entry.strings = self.place();
+            // Counted pair by pair: 2n may not fit 64 bits, but then a string is short long before.
+            for _ in 0..pairs {
+                self.string()?;
+                self.string()?;
+            }
+            entry.string_count = 2 * pairs;
         }
-        entry.after = self.at;
+        entry.after = self.place();
         Ok(entry)
-    }
-
-    fn series(&mut self, entry: &mut Entry) -> Result<(), Refusal> {
-        entry.id = SeriesId(self.eight()?);
-        Ok(())
-    }
-
-    fn tombstone(&mut self, entry: &mut Entry) -> Result<(), Refusal> {
-        entry.id = SeriesId(self.eight()?);
-        entry.time = Timestamp(self.varint()?);
-        entry.max = Timestamp(self.varint()?);
-        Ok(())
-    }
-
-    fn metadata(&mut self, entry: &mut Entry) -> Result<(), Refusal> {
-        entry.id = SeriesId(self.uvarint()?);
-        entry.metric_type = self.byte()?;
-        Ok(())
-    }
-
-    fn row(&mut self, entry: &mut Entry) -> Result<(), Refusal> {
-        let first = First::of(self.body);
-        let id_delta = self.uvarint()?;
-        let time_delta = self.uvarint()?;
-        (entry.id, entry.time) = first.plus(id_delta, time_delta);
-        entry.bits = self.eight()?;
-        Ok(())
-    }
-
-    /// The count n, then 2n strings. Counted pair by pair: 2n may not fit 64 bits, but then a
-    /// string is short long before.
-    fn pairs(&mut self, entry: &mut Entry) -> Result<(), Refusal> {
-        let pairs = self.uvarint()?;
-        entry.strings = self.at;
-        for _ in 0..pairs {
-            self.string()?;
-            self.string()?;
-        }
-        entry.string_count = 2 * pairs;
-        Ok(())
     }
 }
 

@@ -1,6 +1,6 @@
 //! The second program: document 01 written down plainly, from the papers alone, so that the
-//! product can be compared with it. Clear before fast; the checksum alone is also made fast, since
-//! the product's speed is measured against it.
+//! product can be compared with it. Clear before fast; the checksum and the bodies are also made
+//! fast, since the product's speed is measured against them.
 
 #![forbid(unsafe_code)]
 

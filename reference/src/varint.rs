@@ -15,21 +15,31 @@ pub enum Fault {
 }
 
 /// Appends the uvarint of `number`.
-pub fn write_uvarint(mut number: u64, bytes: &mut Vec<u8>) {
-    while number > 0x7F {
-        bytes.push(number as u8 | 0x80);
-        number >>= 7;
-    }
-    bytes.push(number as u8);
+pub fn write_uvarint(number: u64, bytes: &mut Vec<u8>) {
+    let mut room = [0; LONGEST];
+    let length = put_uvarint(number, &mut room);
+    bytes.extend(&room[..length]);
 }
 
-/// The number of bytes that `write_uvarint` appends.
-pub fn uvarint_length(number: u64) -> usize {
-    let mut length = 1;
-    while length < LONGEST && number >> (7 * length) != 0 {
-        length += 1;
+/// Writes the uvarint of `number` to the front of `room`, which has to hold it, and answers its
+/// length.
+#[inline(always)]
+pub fn put_uvarint(mut number: u64, room: &mut [u8]) -> usize {
+    let mut last = 0;
+    while number > 0x7F {
+        room[last] = number as u8 | 0x80;
+        number >>= 7;
+        last += 1;
     }
-    length
+    room[last] = number as u8;
+    last + 1
+}
+
+/// The number of bytes that the uvarint of `number` takes: one for each seven bits begun, at least
+/// one. For 1 to 64 bits, (9 * bits + 64) / 64 is bits / 7 rounded up.
+pub fn uvarint_length(number: u64) -> usize {
+    let bits = u64::BITS - (number | 1).leading_zeros();
+    (9 * bits + 64) as usize / 64
 }
 
 /// The number that `bytes` begin with, and how many bytes it takes.
@@ -90,6 +100,18 @@ mod tests {
             write_varint(number, &mut bytes);
             assert_eq!(bytes.len(), varint_length(number));
             assert_eq!(read_varint(&bytes), Ok((number, bytes.len())));
+        }
+    }
+
+    #[test]
+    fn lengths() {
+        assert_eq!(uvarint_length(0), 1);
+        for bits in 1..=u64::BITS {
+            let length = bits.div_ceil(7) as usize;
+            for number in [1 << (bits - 1), u64::MAX >> (u64::BITS - bits)] {
+                assert_eq!(uvarint_length(number), length);
+                assert_eq!(put_uvarint(number, &mut [0; LONGEST]), length);
+            }
         }
     }
 

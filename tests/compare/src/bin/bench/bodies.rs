@@ -17,7 +17,7 @@ buffers: warm, the same for both; a body has no checksum
 
 const JOBS: &str = "\
 To build the switch is to start a body and add two rows; to read it, to read both rows and the
-plain end. The second program makes each row in a vector of its own before it copies it.";
+plain end. The second program writes each row straight into the buffer, without allocation.";
 
 /// Prints a line for each job and hands back the summary.
 pub fn bench() -> String {
