@@ -1,6 +1,5 @@
 -- What an answer in the code's form says of the definition's reading: the value and the place after it, or the fault.
 use mathlib.Core.Path.{_≡_}
-use mathlib.Core.List.{List}
 use Prim.Native.Nat.{ℕ}
 use native.Mathlib.Omega.{arith}
 use lib.IntN.{ℤ}
@@ -23,7 +22,7 @@ use Rattle.body.specs.declared.fields.Place.{Place}
 use Rattle.body.specs.declared.fields.Place.the-variants.{At, Fault}
 use Rattle.body.specs.declared.entries.RowRead.{RowRead}
 use Rattle.body.specs.declared.entries.RowRead.the-variants as row
-use Rattle.body.specs.Answers.{numberRead, signedRead, textRead, textsPlace, textListRead, rowRead, placeRead}
+use Rattle.body.specs.Answers.{numberRead, signedRead, textRead, textListRead, rowRead, placeRead}
 
 -- two answers of different cases are not one
 never : {A : Type 0} → _≡_ {A = ℕ} 0 1 → A
@@ -84,11 +83,3 @@ place-at (fault w) r e g = never cc
 pub place-fault : (f : Field ℕ) (r : Place) {why : Refusal} → r ≡ placeRead f → r ≡ Fault why → f ≡ fault why
 place-fault (got n q) r e g = never cc
 place-fault (fault w) r e g = cc
-
-pub texts-at : (f : Field (List (List ℕ))) (r : Place) {q : ℕ} → r ≡ textsPlace f → r ≡ At q → (ts : List (List ℕ)) × (f ≡ got ts q)
-texts-at (got ts p) r e g = (ts, cc)
-texts-at (fault w) r e g = never cc
-
-pub texts-fault : (f : Field (List (List ℕ))) (r : Place) {why : Refusal} → r ≡ textsPlace f → r ≡ Fault why → f ≡ fault why
-texts-fault (got ts p) r e g = never cc
-texts-fault (fault w) r e g = cc

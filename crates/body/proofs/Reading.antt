@@ -5,7 +5,7 @@ use mathlib.Core.List.{List, _∷_}
 use Prim.Native.Nat.{ℕ, zero, suc, _+_, _*_, _-_, _^_, _≤_, _<_}
 use native.Mathlib.Omega.{arith}
 use native.Mathlib.Nat.{add-zero}
-use borrow.Author.Tests.{lt-ltb, ne-eqb}
+use borrow.Author.Tests.{lt-ltb, eq-eqb, ne-eqb}
 use lib.IntN.{ℤ}
 use lib.Signed.{mag}
 use lib.Dec.{eqb}
@@ -20,10 +20,10 @@ use Rattle.varint.specs.VarintLaws.{taken-varint}
 use Rattle.body_format.specs.declared.CheckAnswer.{CheckAnswer}
 use Rattle.body_format.specs.declared.CheckAnswer.the-variants.{Entries, Refused as CheckRefused}
 use Rattle.body_format.specs.declared.EntryAnswer.{EntryAnswer}
-use Rattle.body_format.specs.declared.EntryAnswer.the-variants.{Found, End, Refused}
+use Rattle.body_format.specs.declared.EntryAnswer.the-variants.{Refused}
 use Rattle.body_format.specs.Fields.{Field, got, fault, andThen, Text, uvarintAt, varintOf, varintAt, textAt, textsAt, textListAt, fixedAt}
-use Rattle.body_format.specs.Entries.{Kind, Entry, seriesEntry, sampleEntry, tombstoneEntry, exemplarEntry, metadataEntry, Placed, hasRows, entryAt, entriesFrom, firstAt, entries, known}
-use Rattle.body_format.specs.Reading.{checkFields, checkKnown, checkBody, view, answerEntry, entryOrEnd, firstEntry, answerString}
+use Rattle.body_format.specs.Entries.{Kind, Entry, Placed, hasRows, entryAt, entriesFrom, firstAt, entries, known}
+use Rattle.body_format.specs.Reading.{checkFields, checkKnown, checkBody, entryOrEnd, firstEntry, answerString}
 use Rattle.body_format.specs.Laws.Fields.{uvarint-got, text-got}
 use Rattle.body_format.specs.Laws.Bounds.{Every, every-then, of-got, uvarint-ahead, fixed-ahead, texts-ahead, entry-ahead}
 use Rattle.body_format.specs.declared.StringAnswer.the-variants.{Found as StringFound, Refused as StringRefused}
@@ -33,7 +33,7 @@ use Rattle.body.specs.declared.strings.TextListRead.{TextListRead}
 use Rattle.body.specs.declared.strings.TextListRead.the-variants as list
 use Rattle.body.specs.declared.fields.Place.{Place}
 use Rattle.body.specs.declared.fields.Place.the-variants.{At, Fault}
-use Rattle.body.specs.Answers.{textRead, tally, textsPlace, textListRead, placeRead}
+use Rattle.body.specs.Answers.{textRead, tally, textListRead, placeRead, endOf, entryPlace}
 
 -- ---- numbers
 
@@ -69,18 +69,18 @@ pub string-refused : (f : Field Text) {why : Refusal} → f ≡ fault why → St
 string-refused f e = rw e
 
 module _ (s : List ℕ) (p : ℕ) where
-  pub pair-1 : {why : Refusal} → textAt s p ≡ fault why → Fault why ≡ textsPlace (textsAt 2 s p)
+  pub pair-1 : {why : Refusal} → textAt s p ≡ fault why → Fault why ≡ endOf (textsAt 2 s p)
   unfolding textsAt
   pair-1 h = rw h
 
   pub pair-2 : {start size q : ℕ} {why : Refusal} → (t : Text) × (textAt s p ≡ got t q) × (t .start ≡ start) × (length (t .bytes) ≡ size)
-      → textAt s q ≡ fault why → Fault why ≡ textsPlace (textsAt 2 s p)
+      → textAt s q ≡ fault why → Fault why ≡ endOf (textsAt 2 s p)
   unfolding textsAt
   pair-2 (t, h, a, b) i = rw (h, i)
 
   pub pair-all : {start size q start′ size′ r : ℕ} → (t : Text) × (textAt s p ≡ got t q) × (t .start ≡ start) × (length (t .bytes) ≡ size)
       → (u : Text) × (textAt s q ≡ got u r) × (u .start ≡ start′) × (length (u .bytes) ≡ size′)
-      → At r ≡ textsPlace (textsAt 2 s p)
+      → At r ≡ endOf (textsAt 2 s p)
   unfolding textsAt
   pair-all (t, h, a, b) (u, i, c, d) = rw (h, i)
 
@@ -101,14 +101,14 @@ two-more first c a b (got ts r) = ap (λ (n : ℕ). list.Got n first r) (omega a
 two-more first c a b (fault why) = refl
 
 two-steps : (s : List ℕ) (first k p c : ℕ) (f g : Field Text) → textAt s p ≡ f → textAt s (after f) ≡ g
-    → tally first c (textsAt (suc (suc k)) s p) ≡ afterPair s first k c (textsPlace (textsAt 2 s p))
+    → tally first c (textsAt (suc (suc k)) s p) ≡ afterPair s first k c (endOf (textsAt 2 s p))
 unfolding textsAt
 two-steps s first k p c (fault why) g e h = rw e
 two-steps s first k p c (got t q) (fault why) e h = rw (e, h)
 two-steps s first k p c (got t q) (got u r) e h = rw (e, h) (two-more first c (t .bytes) (u .bytes) (textsAt k s r))
 
 pair-step : (s : List ℕ) (first k p c : ℕ) → 0 < k
-    → tally first c (textsAt (2 * k) s p) ≡ afterPair s first (2 * (k - 1)) c (textsPlace (textsAt 2 s p))
+    → tally first c (textsAt (2 * k) s p) ≡ afterPair s first (2 * (k - 1)) c (endOf (textsAt 2 s p))
 pair-step s first k p c h =
     let twice : 2 * k ≡ suc (suc (2 * (k - 1))) = omega arith in
     rw twice (two-steps s first (2 * (k - 1)) p c (textAt s p) _ refl refl)
@@ -124,20 +124,20 @@ PairTold s first pairs at count left (At q) = Pairs s first pairs q (count + 2) 
 PairTold s first pairs at count left (Fault why) = list.Fault why ≡ tally first 0 (textsAt (2 * pairs) s first)
 
 pub pair-turn : (s : List ℕ) (first pairs at count left : ℕ) → Pairs s first pairs at count left → 0 < left
-    → (r : Place) → r ≡ textsPlace (textsAt 2 s at) → PairTold s first pairs at count left r
+    → (r : Place) → r ≡ endOf (textsAt 2 s at) → PairTold s first pairs at count left r
 pair-turn s first pairs at count left i h r e = rw e (go (textsAt 2 s at) refl)
   where
-    step : tally first 0 (textsAt (2 * pairs) s first) ≡ afterPair s first (2 * (left - 1)) count (textsPlace (textsAt 2 s at))
+    step : tally first 0 (textsAt (2 * pairs) s first) ≡ afterPair s first (2 * (left - 1)) count (endOf (textsAt 2 s at))
     step = sym (i .same) ∙ pair-step s first left at count h
 
-    go : (f : Field (List (List ℕ))) → textsAt 2 s at ≡ f → PairTold s first pairs at count left (textsPlace f)
+    go : (f : Field (List (List ℕ))) → textsAt 2 s at ≡ f → PairTold s first pairs at count left (endOf f)
     go (got ts q) g =
         let b = of-got _ (textsAt 2 s at) ts q (texts-ahead s 2 at (i .inside)) g in
         let t : tally first (count + 2) (textsAt (2 * (left - 1)) s q) ≡ tally first 0 (textsAt (2 * pairs) s first)
-        = sym (step ∙ ap (λ (f : Field (List (List ℕ))). afterPair s first (2 * (left - 1)) count (textsPlace f)) g) in
+        = sym (step ∙ ap (λ (f : Field (List (List ℕ))). afterPair s first (2 * (left - 1)) count (endOf f)) g) in
         let few : count + 2 ≤ q = omega (arith, i .few) in
         (record { inside = b .1; few = few; same = t }, b .1, few)
-    go (fault why) g = sym (step ∙ ap (λ (f : Field (List (List ℕ))). afterPair s first (2 * (left - 1)) count (textsPlace f)) g)
+    go (fault why) g = sym (step ∙ ap (λ (f : Field (List (List ℕ))). afterPair s first (2 * (left - 1)) count (endOf f)) g)
 
 -- none are left
 pub pairs-done : (s : List ℕ) (first pairs at count : ℕ) → Pairs s first pairs at count 0
@@ -172,13 +172,6 @@ one-more : (c : ℕ) (e : Entry) (f : Field (List Entry)) → counted c (andThen
 one-more c e (got es r) = ap Entries (omega arith)
 one-more c e (fault why) = refl
 
-view-next : (e : Entry) (first q : ℕ) → view e first q .next .0 ≡ q
-view-next (seriesEntry id ts) first q = refl
-view-next (sampleEntry id t v) first q = refl
-view-next (tombstoneEntry id lo hi) first q = refl
-view-next (exemplarEntry id t v ts) first q = refl
-view-next (metadataEntry id m ts) first q = refl
-
 -- from `at` on, behind `count` entries; `fuel` is more than the bytes left
 pub record Counting (k : Kind) (s : List ℕ) (first at count : ℕ) : Type 0 where
   pub fuel : ℕ
@@ -187,39 +180,45 @@ pub record Counting (k : Kind) (s : List ℕ) (first at count : ℕ) : Type 0 wh
   pub few : count ≤ at
   pub same : counted count (entriesFrom fuel k s at) ≡ checkFields (entriesFrom (length s) k s first)
 
-abbrev pub EntryTold : Kind → List ℕ → ℕ → ℕ → ℕ → EntryAnswer → Type 0
-EntryTold k s first at count (Found v) = Counting k s first (v .next .0) (count + 1) × (at < v .next .0) × (v .next .0 ≤ length s)
-EntryTold k s first at count End = Entries count ≡ checkFields (entriesFrom (length s) k s first)
-EntryTold k s first at count (Refused why) = CheckRefused why ≡ checkFields (entriesFrom (length s) k s first)
+abbrev pub EndTold : Kind → List ℕ → ℕ → ℕ → ℕ → Place → Type 0
+EndTold k s first at count (At q) = Counting k s first q (count + 1) × (at < q) × (q ≤ length s)
+EndTold k s first at count (Fault why) = CheckRefused why ≡ checkFields (entriesFrom (length s) k s first)
 
 pub counting : (k : Kind) (s : List ℕ) (first : ℕ) → 0 < first → first ≤ length s → Counting k s first first 0
 counting k s first h l =
     record { fuel = length s; enough = omega arith; inside = l; few = omega arith; same = counted-none (entriesFrom (length s) k s first) }
 
-entry-step : (k : Kind) (s : List ℕ) (first at count n : ℕ) → length s - at < suc n → at ≤ length s → count ≤ at
+end-step : (k : Kind) (s : List ℕ) (first at count n : ℕ) → length s - at < suc n → at < length s → count ≤ at
     → counted count (entriesFrom (suc n) k s at) ≡ checkFields (entriesFrom (length s) k s first)
-    → (t : Bool) → eqb at (length s) ≡ t → (f : Field Placed) → entryAt k s at ≡ f
-    → EntryTold k s first at count (cond t End (answerEntry f))
+    → (f : Field Placed) → entryAt k s at ≡ f → EndTold k s first at count (endOf f)
 unfolding entriesFrom
-entry-step k s first at count n m l w same true e f h = ap Entries (sym (add-zero count)) ∙ (rw e at same)
-entry-step k s first at count n m l w same false e (fault why) h = rw (e, h) at same
-entry-step k s first at count n m l w same false e (got x q) h =
+end-step k s first at count n m l w same (fault why) h = rw (ne-eqb at (length s) (λ e. omega arith), h) at same
+end-step k s first at count n m l w same (got x q) h =
     let b = of-got _ (entryAt k s at) x q (entry-ahead s k at) h in
     let t : counted (count + 1) (entriesFrom n k s q) ≡ checkFields (entriesFrom (length s) k s first)
-    = sym (one-more count (x .entry) (entriesFrom n k s q)) ∙ (rw (e, h) at same) in
-    rw (view-next (x .entry) (x .first) q)
+    = sym (one-more count (x .entry) (entriesFrom n k s q)) ∙ (rw (ne-eqb at (length s) (λ e. omega arith), h) at same) in
     (record { fuel = n; enough = omega arith; inside = b .1; few = omega arith; same = t }, omega arith, b .1)
 
-pub entry-turn : (k : Kind) (s : List ℕ) (first at count : ℕ) → Counting k s first at count
-    → (r : EntryAnswer) → r ≡ entryOrEnd k s at → EntryTold k s first at count r
-unfolding entryOrEnd
-entry-turn k s first at count i r e = rw e (go (i .fuel) (i .enough) (i .same))
+-- one entry more
+pub end-turn : (k : Kind) (s : List ℕ) (first at count : ℕ) → Counting k s first at count → at < length s
+    → (r : Place) → r ≡ endOf (entryAt k s at) → EndTold k s first at count r
+end-turn k s first at count i l r e = rw e (go (i .fuel) (i .enough) (i .same))
   where
     go : (n : ℕ) → length s - at < n → counted count (entriesFrom n k s at) ≡ checkFields (entriesFrom (length s) k s first)
-        → EntryTold k s first at count (cond (eqb at (length s)) End (answerEntry (entryAt k s at)))
+        → EndTold k s first at count (endOf (entryAt k s at))
     go zero m same = absurd (omega arith)
-    go (suc n) m same =
-        entry-step k s first at count n m (i .inside) (i .few) same (eqb at (length s)) refl (entryAt k s at) refl
+    go (suc n) m same = end-step k s first at count n m l (i .few) same (entryAt k s at) refl
+
+-- none is left
+pub count-done : (k : Kind) (s : List ℕ) (first at count : ℕ) → Counting k s first at count → length s ≤ at
+    → Entries count ≡ checkFields (entriesFrom (length s) k s first)
+unfolding entriesFrom
+count-done k s first at count i l = go (i .fuel) (i .enough) (i .same)
+  where
+    go : (n : ℕ) → length s - at < n → counted count (entriesFrom n k s at) ≡ checkFields (entriesFrom (length s) k s first)
+        → Entries count ≡ checkFields (entriesFrom (length s) k s first)
+    go zero m same = absurd (omega arith)
+    go (suc n) m same = ap Entries (sym (add-zero count)) ∙ (rw (eq-eqb at (length s) (omega (arith, i .inside))) at same)
 
 -- ---- where the entries begin
 
@@ -232,15 +231,6 @@ module _ (s : List ℕ) (h : length s ≡ 1 → ⊥) where
 
   pub first-all : {n q m r : ℕ} → fixedAt s 1 ≡ got n q → fixedAt s q ≡ got m r → At r ≡ placeRead (firstAt true s)
   first-all a b = rw (ne-eqb (length s) 1 h, a, b)
-
--- the first entry
-pub first-found : (k : Kind) (s : List ℕ) {p : ℕ} → (q : ℕ) × (firstAt (hasRows k) s ≡ got p q)
-    → entryOrEnd k s p ≡ firstEntry k s (firstAt (hasRows k) s)
-first-found k s (q, e) = rw e
-
-pub first-refused : (k : Kind) (s : List ℕ) {why : Refusal} → firstAt (hasRows k) s ≡ fault why
-    → Refused why ≡ firstEntry k s (firstAt (hasRows k) s)
-first-refused k s e = rw e
 
 -- all of them
 pub check-all : (k : Kind) (s : List ℕ) {first : ℕ} → checkBody s ≡ checkKnown (known k) s → (q : ℕ) × (firstAt (hasRows k) s ≡ got first q)
@@ -270,3 +260,25 @@ begins s h true = go (eqb (length s) 1)
 
 pub first-inside : (t : Bool) (s : List ℕ) {p : ℕ} → 0 < length s → (q : ℕ) × (firstAt t s ≡ got p q) → (0 < p) × (p ≤ length s)
 first-inside t s {p} h (q, e) = of-got _ (firstAt t s) p q (begins s h t) e
+
+-- ---- the entry for a place
+
+module _ (k : Kind) (s : List ℕ) (p : ℕ) where
+  pub place-found : {q : ℕ} → At q ≡ entryPlace k s p → cond (eqb p 1) (firstEntry k s (firstAt (hasRows k) s)) (entryOrEnd k s p) ≡ entryOrEnd k s q
+  place-found {q} e = go (eqb p 1) refl (firstAt (hasRows k) s) refl
+    where
+      go : (t : Bool) → eqb p 1 ≡ t → (f : Field ℕ) → firstAt (hasRows k) s ≡ f
+          → cond (eqb p 1) (firstEntry k s (firstAt (hasRows k) s)) (entryOrEnd k s p) ≡ entryOrEnd k s q
+      go true h (got n x) i = let z : At q ≡ At n = rw (h, i) at e in let y : q ≡ n = cc in rw (h, i, y)
+      go true h (fault why) i = let z : At q ≡ Fault why = rw (h, i) at e in absurd (let y : _≡_ {A = ℕ} 0 1 = cc in omega arith)
+      go false h f i = let z : At q ≡ At p = rw h at e in let y : q ≡ p = cc in rw (h, y)
+
+  pub place-refused : {why : Refusal} → Fault why ≡ entryPlace k s p
+      → cond (eqb p 1) (firstEntry k s (firstAt (hasRows k) s)) (entryOrEnd k s p) ≡ Refused why
+  place-refused {why} e = go (eqb p 1) refl (firstAt (hasRows k) s) refl
+    where
+      go : (t : Bool) → eqb p 1 ≡ t → (f : Field ℕ) → firstAt (hasRows k) s ≡ f
+          → cond (eqb p 1) (firstEntry k s (firstAt (hasRows k) s)) (entryOrEnd k s p) ≡ Refused why
+      go true h (got n x) i = let z : Fault why ≡ At n = rw (h, i) at e in absurd (let y : _≡_ {A = ℕ} 0 1 = cc in omega arith)
+      go true h (fault w) i = let z : Fault why ≡ Fault w = rw (h, i) at e in let y : why ≡ w = cc in rw (h, i, y)
+      go false h f i = let z : Fault why ≡ At p = rw h at e in absurd (let y : _≡_ {A = ℕ} 0 1 = cc in omega arith)

@@ -1,15 +1,17 @@
 -- The definitions' readings in the forms that the code hands from one function to the next: where a string's bytes do not matter, they are left out.
 -- Assumes nothing.
+use mathlib.Core.Bool.{cond}
 use mathlib.Core.List.{List, [], _∷_}
 use Prim.Native.Nat.{ℕ, _+_}
 use lib.IntN.{ℤ}
+use lib.Dec.{eqb}
 use lib.ListN.{length, drop}
 use Rattle.wal_types.specs.declared.Refusal.the-variants.{UnknownType, EmptyBody}
 use Rattle.wal_types.specs.declared.SeriesId.{SeriesId}
 use Rattle.wal_types.specs.Terms.{seriesId, timestamp}
 use Rattle.varint.specs.Fixed.{readBe8}
 use Rattle.body_format.specs.Fields.{Field, got, fault, Text, Texts}
-use Rattle.body_format.specs.Entries.{Kind, series, samples, tombstones, exemplars, metadata, Known, known, unknown, kindOf, Row}
+use Rattle.body_format.specs.Entries.{Kind, series, samples, tombstones, exemplars, metadata, Known, known, unknown, kindOf, Row, hasRows, firstAt}
 use Rattle.body.specs.declared.kinds.BodyKind.{BodyKind}
 use Rattle.body.specs.declared.kinds.BodyKind.the-variants.{Series, Samples, Tombstones, Exemplars, Metadata}
 use Rattle.body.specs.declared.kinds.TypeRead.{TypeRead}
@@ -67,11 +69,6 @@ abbrev pub textRead : Field Text → TextRead
 textRead (got t next) = text.Got (t .start) (length (t .bytes)) next
 textRead (fault why) = text.Fault why
 
--- strings in a row: the place after them
-abbrev pub textsPlace : Field (List (List ℕ)) → Place
-textsPlace (got ts next) = At next
-textsPlace (fault why) = Fault why
-
 -- strings in a row, behind `count` others of a list whose first begins at `first`
 abbrev pub tally : ℕ → ℕ → Field (List (List ℕ)) → TextListRead
 tally first count (got ts next) = list.Got (count + length ts) first next
@@ -80,6 +77,18 @@ tally first count (fault why) = list.Fault why
 abbrev pub textListRead : Field Texts → TextListRead
 textListRead (got l next) = list.Got (length (l .strings)) (l .first) next
 textListRead (fault why) = list.Fault why
+
+-- ---- ends
+
+-- the place after a field or an entry
+abbrev pub endOf : {A : Type 0} → Field A → Place
+endOf (got a next) = At next
+endOf (fault why) = Fault why
+
+-- on from a place, or the fault that was met before
+abbrev pub onward : Place → (ℕ → Place) → Place
+onward (At p) f = f p
+onward (Fault why) f = Fault why
 
 -- ---- rows and places
 
@@ -98,3 +107,7 @@ rowRead (fault why) = row.Fault why
 abbrev pub placeRead : Field ℕ → Place
 placeRead (got p next) = At p
 placeRead (fault why) = Fault why
+
+-- where the entry for place p is: place 1 is the first entry's
+abbrev pub entryPlace : Kind → List ℕ → ℕ → Place
+entryPlace k s p = cond (eqb p 1) (placeRead (firstAt (hasRows k) s)) (At p)

@@ -1,5 +1,6 @@
 // A record body in a lent slice: checked whole, and read entry by entry and string by string. What the calls answer is what the definitions
 // of the crate body_format say.
+mod ends;
 mod entries;
 mod fields;
 mod kinds;
@@ -16,7 +17,7 @@ use kinds::TypeRead;
 use kinds::body_type;
 use places::count_entries;
 use places::entries_begin;
-use places::first_entry;
+use places::entry_place;
 use places::is_misplaced;
 use strings::TextRead;
 use strings::text_at;
@@ -48,11 +49,13 @@ pub fn entry_at(body: &[u8], place: Offset) -> EntryAnswer
             if is_misplaced(body, kind, at) {
                 return EntryAnswer::Refused(Refusal::BadPlace);
             }
-            if at == 1 {
-                return first_entry(body, kind);
+            match entry_place(body, kind, at) {
+                Place::At(from) => {
+                    let base = base_of(body);
+                    entry_or_end(body, kind, base.id, base.time, from)
+                }
+                Place::Fault(why) => EntryAnswer::Refused(why),
             }
-            let base = base_of(body);
-            entry_or_end(body, kind, base.id, base.time, at)
         }
         TypeRead::Refused(why) => EntryAnswer::Refused(why),
     }

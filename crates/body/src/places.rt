@@ -1,19 +1,17 @@
 // Places of entries: which are good, where the entries begin, and how many there are.
-use crate::entries::base_of;
-use crate::entries::entry_or_end;
+use crate::ends::entry_end;
 use crate::fields::NumberRead;
 use crate::fields::Place;
 use crate::fields::fixed_at;
 use crate::kinds::BodyKind;
 use crate::kinds::has_rows;
 use body_format::CheckAnswer;
-use body_format::EntryAnswer;
 ghost use mathlib.Core.Path.{_≡_};
 ghost use Prim.Native.Nat.{_≤_, _<_};
 ghost use lib.ListN.{length};
 ghost use Rattle.body_format.specs.Entries.{hasRows, firstAt, entriesFrom};
-ghost use Rattle.body_format.specs.Reading.{checkFields, badPlace, firstEntry};
-ghost use Rattle.body.specs.Answers.{kindIn, placeRead};
+ghost use Rattle.body_format.specs.Reading.{checkFields, badPlace};
+ghost use Rattle.body.specs.Answers.{kindIn, placeRead, entryPlace};
 
 // Place 0, past the bytes, or 2 to 16 where there are rows.
 pub(crate) fn is_misplaced(body: &[u8], kind: BodyKind, at: usize) -> bool
@@ -53,17 +51,14 @@ pub(crate) fn entries_begin(body: &[u8], kind: BodyKind) -> Place
     }
 }
 
-// The entry where the entries begin, or the plain end.
-pub(crate) fn first_entry(body: &[u8], kind: BodyKind) -> EntryAnswer
-    ensures { λ r. ⌜ r ≡ firstEntry (kindIn kind) (now (body .entry)) (firstAt (hasRows (kindIn kind)) (now (body .entry))) ⌝ }
+// Where the entry for a place is: place 1 is the first entry's.
+pub(crate) fn entry_place(body: &[u8], kind: BodyKind, at: usize) -> Place
+    ensures { λ r. ⌜ r ≡ entryPlace (kindIn kind) (now (body .entry)) at ⌝ }
 {
-    match entries_begin(body, kind) {
-        Place::At(first) => {
-            let base = base_of(body);
-            entry_or_end(body, kind, base.id, base.time, first)
-        }
-        Place::Fault(why) => EntryAnswer::Refused(why),
+    if at == 1 {
+        return entries_begin(body, kind);
     }
+    Place::At(at)
 }
 
 // How many entries there are from a place to the end of the body.
@@ -71,21 +66,18 @@ pub(crate) fn count_entries(body: &[u8], kind: BodyKind, first: usize) -> CheckA
     requires { ⌜ (0 < first) × (first ≤ length (now body)) ⌝ }
     ensures { λ r. ⌜ r ≡ checkFields (entriesFrom (length (now (body .entry))) (kindIn kind) (now (body .entry)) first) ⌝ }
 {
-    let base = base_of(body);
     let mut at = first;
     let mut count: usize = 0;
-    loop {
-        match entry_or_end(body, kind, base.id, base.time, at) {
-            EntryAnswer::Found(view) => {
-                at = view.next.0;
+    while at < body.len() {
+        match entry_end(body, kind, at) {
+            Place::At(next) => {
+                at = next;
                 count += 1;
             }
-            EntryAnswer::End => {
-                return CheckAnswer::Entries(count);
-            }
-            EntryAnswer::Refused(why) => {
+            Place::Fault(why) => {
                 return CheckAnswer::Refused(why);
             }
         }
     }
+    CheckAnswer::Entries(count)
 }

@@ -8,7 +8,7 @@ ghost use mathlib.Core.Path.{_≡_};
 ghost use Prim.Native.Nat.{_*_, _≤_};
 ghost use lib.ListN.{length};
 ghost use Rattle.body_format.specs.Fields.{textAt, textsAt, textListAt};
-ghost use Rattle.body.specs.Answers.{textRead, textsPlace, textListRead, tally};
+ghost use Rattle.body.specs.Answers.{textRead, endOf, textListRead, tally};
 
 // Where a string's bytes start, how many they are, and the place after them.
 pub(crate) enum TextRead {
@@ -54,7 +54,7 @@ pub(crate) fn text_at(body: &[u8], at: usize) -> TextRead
 
 // The place after two strings.
 fn pair_at(body: &[u8], at: usize) -> Place
-    ensures { λ r. ⌜ r ≡ textsPlace (textsAt 2 (now (body .entry)) at) ⌝ }
+    ensures { λ r. ⌜ r ≡ endOf (textsAt 2 (now (body .entry)) at) ⌝ }
 {
     match text_at(body, at) {
         TextRead::Got {

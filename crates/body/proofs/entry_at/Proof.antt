@@ -3,7 +3,6 @@ use borrow.Author.Needs.{needs}
 use Prim.Native.Nat.{ℕ}
 use mathlib.Core.Path.{_≡_, sym, ap, _∙_}
 use mathlib.Core.List.{List}
-use borrow.Author.Tests.{eq-eqb, ne-eqb}
 use Rattle.body_format.specs.declared.EntryAnswer.the-variants.{Refused as EntryRefused}
 use Rattle.body_format.specs.Entries.{known}
 use Rattle.body_format.specs.Reading.{entryKnown, readEntry}
@@ -12,6 +11,7 @@ use Rattle.body.specs.declared.kinds.TypeRead.{TypeRead}
 use Rattle.body.specs.declared.kinds.TypeRead.the-variants as type
 use Rattle.body.specs.Answers.{kindIn, typeRead}
 use Rattle.body.proofs.Types.{byType, entry-type}
+use Rattle.body.proofs.Reading.{place-found, place-refused}
 use Rattle.body.proofs.entry_at.Statement.{statement}
 use Rattle.body.proofs.entry_at.Tie as tie
 
@@ -23,24 +23,20 @@ returns c = rw (known-entry _ _ (c .before .before .before .before .before .body
 
 returns-2 : tie.Need-returns-2
 returns-2 c =
-    rw (
-      known-entry _ _ (c .before .before .before .before .before .before .before .body-type .ensures) (c .before .before .before .before .before .kind .given .1),
-      sym (c .before .before .before .is-misplaced .ensures) ∙ c .before .before .if1 .left,
-      eq-eqb _ _ (c .before .if2 .taken),
-    )
-    (c .first-entry .ensures)
+    let a = c .before .before .before .before .before .before .before .before .before .before .before .before .before .args in
+    let k = kindIn (c .before .before .before .before .before .before .before .before .before .kind .given .0 .0) in
+    rw (known-entry _ _ (c .before .before .before .before .before .before .before .before .before .before .before .body-type .ensures) (c .before .before .before .before .before .before .before .before .before .kind .given .1), sym (c .before .before .before .before .before .before .before .is-misplaced .ensures) ∙ c .before .before .before .before .before .before .if1 .left)
+    (c .entry-or-end .ensures ∙ sym (place-found k (a .body .now) (a .place .0) (sym (c .before .before .before .from .given .1) ∙ c .before .before .before .before .before .entry-place .ensures)))
 
 returns-3 : tie.Need-returns-3
 returns-3 c =
-    rw (
-      known-entry _ _ (c .before .before .before .before .before .before .before .before .body-type .ensures) (c .before .before .before .before .before .before .kind .given .1),
-      sym (c .before .before .before .before .is-misplaced .ensures) ∙ c .before .before .before .if1 .left,
-      ne-eqb _ _ (c .before .before .if2 .left),
-    )
-    (c .entry-or-end .ensures)
+    let a = c .before .before .before .before .before .before .before .before .before .before .before .args in
+    let k = kindIn (c .before .before .before .before .before .before .before .kind .given .0 .0) in
+    rw (known-entry _ _ (c .before .before .before .before .before .before .before .before .before .body-type .ensures) (c .before .before .before .before .before .before .before .kind .given .1), sym (c .before .before .before .before .before .is-misplaced .ensures) ∙ c .before .before .before .before .if1 .left)
+    (sym (place-refused k (a .body .now) (a .place .0) (sym (c .before .why .given .1) ∙ c .before .before .before .entry-place .ensures)))
 
 returns-4 : tie.Need-returns-4
-returns-4 c = sym (entry-type _ _ ∙ ap (byType EntryRefused _) (sym (c .before .before .before .body-type .ensures) ∙ c .before .why .given .1))
+returns-4 c = sym (entry-type _ _ ∙ ap (byType EntryRefused _) (sym (c .before .before .before .body-type .ensures) ∙ c .before .why2 .given .1))
 
 pub entry-at-spec : {M : Type 1} → statement M
 entry-at-spec =
@@ -51,9 +47,11 @@ entry-at-spec =
     (λ c κs. search needs)
     returns
     (λ c κs. search needs)
-    returns-2
+    (λ c. search needs)
     (λ c κs. search needs)
     (λ c κs. search needs)
     (λ c. search needs)
+    (λ c. search needs)
+    returns-2
     returns-3
     returns-4)
