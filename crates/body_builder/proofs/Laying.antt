@@ -5,9 +5,8 @@ use Prim.Native.Nat.{ℕ, _+_, _-_, _/_, _≤_, _<_}
 use native.Mathlib.Omega.{arith}
 use lib.ListN.{length, getD, take, drop, set, length-set, drop-of-length-le, length-append}
 use lib.Seq.{sets, length-sets}
-use Rattle.copying.specs.CopiedLaws.{part-length}
+use Rattle.copying.specs.CopiedLaws.{sets-append, part-length}
 use Rattle.varint.specs.Put.{putAt, putEnd}
-use Rattle.varint.specs.PutLaws.{sets-append}
 use Rattle.varint.specs.Uvarint.{uvarint}
 use Rattle.body_format.specs.Building.{textBytes, textsBytes, textListBytes, cutTexts, total}
 use Rattle.body_format.specs.Laws.Strings.{length-cut, cut-step, total-step}
@@ -82,7 +81,7 @@ module _ (strings lengths b₀ : List ℕ) (at : ℕ) (b : List ℕ) (place from
         end = omega (arith, both .0, l .end, ap length bytes, length-append (uvarint n ++ text) more);
         same =
             ap₂ (λ (x : List ℕ) (y : ℕ). sets x y more) (both .1) (both .0)
-            ∙ sets-append (uvarint n ++ text) b more place
+            ∙ sets-append (uvarint n ++ text) more b place
             ∙ ap (sets b place) (sym bytes)
             ∙ l .same;
       }

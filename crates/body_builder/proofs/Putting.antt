@@ -6,7 +6,8 @@ use native.Mathlib.Omega.{arith}
 use lib.ListN.{length, length-append}
 use lib.Seq.{sets, length-sets}
 use Rattle.varint.specs.Put.{putAt, putEnd}
-use Rattle.varint.specs.PutLaws.{put-fits, end-fits, sets-append}
+use Rattle.varint.specs.PutLaws.{put-fits, end-fits}
+use Rattle.copying.specs.CopiedLaws.{sets-append}
 
 -- the bytes vs stand from place `at` on, d′ is the slice then, and r the place after them
 abbrev pub Put : List ℕ → ℕ → List ℕ → List ℕ → ℕ → Type 0
@@ -26,7 +27,7 @@ module _ (d d₁ : List ℕ) (at p : ℕ) (a b : List ℕ) (h : at + length (a +
   pub put-then : (d₂ : List ℕ) (q : ℕ) → Put d at a d₁ p → Put d₁ p b d₂ q → Put d at (a ++ b) d₂ q
   put-then d₂ q (e, f) (k, l) = (
     omega (arith, length-append a b),
-    l ∙ ap₂ (λ (x : List ℕ) (y : ℕ). sets x y b) f e ∙ sets-append a d b at,
+    l ∙ ap₂ (λ (x : List ℕ) (y : ℕ). sets x y b) f e ∙ sets-append a b d at,
   )
 
 pub put-three : (d d₁ d₂ d₃ : List ℕ) (at p q r : ℕ) (a b c : List ℕ) → at + length (a ++ (b ++ c)) ≤ length d

@@ -1,14 +1,14 @@
 -- Laws of putting: where it fits and where it does not, what is read back, and one put after another.
-use Prim.Native.Nat.{ℕ, suc, _+_, _≤_, _<_}
+use Prim.Native.Nat.{ℕ, _+_, _≤_, _<_}
 use mathlib.Core.Bool.{Bool, true, false}
-use mathlib.Core.List.{List, [], _∷_, _++_, append-assoc}
+use mathlib.Core.List.{List, _++_, append-assoc}
 use mathlib.Core.Path.{_≡_, refl, sym, ap, _∙_}
-use native.Mathlib.Nat.{add-zero}
 use native.Mathlib.Omega.{arith}
 use borrow.Author.Tests.{le-leb, lt-leb}
 use lib.Dec.{leb}
-use lib.ListN.{length, take, drop, set, length-append}
+use lib.ListN.{length, take, drop, length-append}
 use lib.Seq.{sets, sets-eq, length-sets, take-at, drop-at, length-take-le}
+use Rattle.copying.specs.CopiedLaws.{sets-append}
 use Rattle.varint.specs.Put.{putAt, putEnd}
 
 module _ (d : List ℕ) (at : ℕ) (vs : List ℕ) where
@@ -55,18 +55,11 @@ module _ (d : List ℕ) (at : ℕ) (vs : List ℕ) where
         len : length (take at d ++ vs) ≡ at + length vs
         len = length-append (take at d) vs ∙ ap (λ (k : ℕ). k + length vs) (length-take-le at d (omega arith))
 
--- one list of stores after another
-pub sets-append : (a d b : List ℕ) (at : ℕ) → sets (sets d at a) (at + length a) b ≡ sets d at (a ++ b)
-sets-append [] d b at = rw add-zero
-sets-append (x ∷ a) d b at =
-    let e : at + suc (length a) ≡ suc at + length a = omega arith in
-    rw e (sets-append a (set d at x) b (suc at))
-
 -- two puts in a row are one, where both fit
 pub put-append : (d : List ℕ) (at : ℕ) (a b : List ℕ) → at + length a + length b ≤ length d
     → putAt (putAt d at a) (at + length a) b ≡ putAt d at (a ++ b)
 put-append d at a b h =
     put-fits (putAt d at a) (at + length a) b (rw length-put h)
     ∙ ap (λ (x : List ℕ). sets x (at + length a) b) (put-fits d at a (omega arith))
-    ∙ sets-append a d b at
+    ∙ sets-append a b d at
     ∙ sym (put-fits d at (a ++ b) (rw length-append (omega arith)))

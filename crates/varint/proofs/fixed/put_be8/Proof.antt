@@ -5,7 +5,8 @@ use Prim.Native.Nat.{ℕ, _+_, _/_, _^_, _≤_}
 use mathlib.Core.Path.{_≡_, sym, ap₂, _∙_}
 use mathlib.Core.List.{List}
 use lib.ListN.{length}
-use Rattle.varint.specs.PutLaws.{put-fits, put-not, end-fits, end-not, sets-append}
+use Rattle.varint.specs.PutLaws.{put-fits, put-not, end-fits, end-not}
+use Rattle.copying.specs.CopiedLaws.{sets-append}
 use lib.Seq.{sets}
 use Rattle.varint.specs.Put.{putAt, putEnd}
 use Rattle.varint.specs.Fixed.{be4, be8}
@@ -21,7 +22,7 @@ unfolding be8 be4
 put-halves d e f at middle end x h p q r s = (
   omega (arith, end-fits d at (be8 x) h),
   s ∙ ap₂ (λ (l : List ℕ) (m : ℕ). sets l m (be4 x)) q p
-      ∙ sets-append (be4 (x / 2 ^ 32)) d (be4 x) at
+      ∙ sets-append (be4 (x / 2 ^ 32)) (be4 x) d at
       ∙ sym (put-fits d at (be8 x) h),
 )
 
