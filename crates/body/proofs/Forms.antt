@@ -25,7 +25,7 @@ use Rattle.body.specs.declared.entries.RowRead.the-variants as row
 use Rattle.body.specs.Answers.{numberRead, signedRead, textRead, textListRead, rowRead, placeRead}
 
 -- two answers of different cases are not one
-never : {A : Type 0} → _≡_ {A = ℕ} 0 1 → A
+pub never : {A : Type 0} → _≡_ {A = ℕ} 0 1 → A
 never z = absurd (omega arith)
 
 pub number-got : (f : Field ℕ) (r : NumberRead) {n q : ℕ} → r ≡ numberRead f → r ≡ number.Got n q → f ≡ got n q

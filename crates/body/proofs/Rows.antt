@@ -1,4 +1,5 @@
 -- What each entry's fields come to, fault by fault, in the code's forms.
+use mathlib.Core.Bool.{Bool, true, false}
 use mathlib.Core.Path.{_≡_, ap, ap₂, _∙_}
 use mathlib.Core.List.{List}
 use Prim.Native.Nat.{ℕ}
@@ -12,11 +13,14 @@ use Rattle.wal_types.specs.Terms.{offset, seriesId, timestamp}
 use Rattle.wal_types.specs.Deltas.{plus, fromBits}
 use Rattle.body_format.specs.declared.EntryAnswer.the-variants.{Found, Refused}
 use Rattle.body_format.specs.Fields.{got, fault, Texts, fixedAt, uvarintAt, varintAt, byteAt, textListAt}
-use Rattle.body_format.specs.Entries.{Row, rowAt, seriesAt, sampleAt, tombstoneAt, exemplarAt, metadataAt}
+use Rattle.body_format.specs.Entries.{Row, typeByte, rowAt, seriesAt, sampleAt, tombstoneAt, exemplarAt, metadataAt, entryAt}
 use Rattle.body_format.specs.Reading.{answerEntry}
 use Rattle.body.specs.declared.entries.Base.{Base}
 use Rattle.body.specs.declared.entries.RowRead.the-variants as row
-use Rattle.body.specs.Answers.{base, baseIn, rowRead}
+use Rattle.body.specs.declared.strings.TextListRead.{TextListRead}
+use Rattle.body.specs.declared.strings.TextListRead.the-variants as list
+use Rattle.body.specs.Answers.{rowsKind, base, baseIn, rowRead, labelsRead}
+use Rattle.body.proofs.Forms.{never, list-got, list-fault}
 
 module _ (s : List ℕ) (p : ℕ) where
   -- a row
@@ -59,16 +63,38 @@ module _ (s : List ℕ) (p : ℕ) where
   unfolding seriesAt
   series-all h (l, i, j, k) = rw (h, i, ← j, ← k)
 
-  -- type 2
-  pub sample-1 : {why : Refusal} → rowAt s p ≡ fault why → Refused why ≡ answerEntry (sampleAt s p)
-  unfolding sampleAt
-  sample-1 h = rw h
+  -- types 2 and 4
+  pub row-entry-1 : (labelled : Bool) {why : Refusal} → rowAt s p ≡ fault why → Refused why ≡ answerEntry (entryAt (rowsKind labelled) s p)
+  unfolding sampleAt exemplarAt
+  row-entry-1 false h = rw h
+  row-entry-1 true h = rw h
 
-  pub sample-all : {next v : ℕ} {id : SeriesId} {time : Timestamp} → rowAt s p ≡ got (record { id = id .0; time = time .0; bits = v }) next
-      → Found (record { kind = 2; id = id; time = time; max = timestamp (pos 0); bits = v; strings = 0; first = offset next; next = offset next })
-      ≡ answerEntry (sampleAt s p)
+  pub row-entry-2 : (labelled : Bool) (r : TextListRead) {row : Row} {q : ℕ} {why : Refusal} → rowAt s p ≡ got row q
+      → r ≡ labelsRead labelled s q → r ≡ list.Fault why → Refused why ≡ answerEntry (entryAt (rowsKind labelled) s p)
+  unfolding exemplarAt
+  row-entry-2 false r h e f = never cc
+  row-entry-2 true r {q = q} h e f = rw (h, list-fault (textListAt s q) r e f)
+
+  exemplar-all : {q v n first next : ℕ} {id : SeriesId} {time : Timestamp}
+      → rowAt s p ≡ got (record { id = id .0; time = time .0; bits = v }) q
+      → (l : Texts) × (textListAt s q ≡ got l next) × (length (l .strings) ≡ n) × (l .first ≡ first)
+      → Found (record { kind = 4; id = id; time = time; max = timestamp (pos 0); bits = v; strings = n; first = offset first; next = offset next })
+      ≡ answerEntry (exemplarAt s p)
+  unfolding exemplarAt
+  exemplar-all h (l, i, j, k) = rw (h, i, ← j, ← k)
+
+  pub row-entry-all : (labelled : Bool) (r : TextListRead) {q kind v n first next : ℕ} {id : SeriesId} {time : Timestamp}
+      → rowAt s p ≡ got (record { id = id .0; time = time .0; bits = v }) q
+      → r ≡ labelsRead labelled s q → r ≡ list.Got n first next → kind ≡ typeByte (rowsKind labelled)
+      → Found (record { kind = kind; id = id; time = time; max = timestamp (pos 0); bits = v; strings = n; first = offset first; next = offset next })
+      ≡ answerEntry (entryAt (rowsKind labelled) s p)
   unfolding sampleAt
-  sample-all h = rw h
+  row-entry-all false r {q} {n = n} {first} {next} h e f k =
+      let a : n ≡ 0 = cc in
+      let b : first ≡ q = cc in
+      let c : next ≡ q = cc in
+      rw (h, k, a, b, c)
+  row-entry-all true r {q} h e f k = rw k (exemplar-all h (list-got (textListAt s q) r e f))
 
   -- type 3
   pub tombstone-1 : {why : Refusal} → fixedAt s p ≡ fault why → Refused why ≡ answerEntry (tombstoneAt s p)
@@ -90,23 +116,6 @@ module _ (s : List ℕ) (p : ℕ) where
       ≡ answerEntry (tombstoneAt s p)
   unfolding tombstoneAt
   tombstone-all h i j k l = rw (h, i, j, k, l)
-
-  -- type 4
-  pub exemplar-1 : {why : Refusal} → rowAt s p ≡ fault why → Refused why ≡ answerEntry (exemplarAt s p)
-  unfolding exemplarAt
-  exemplar-1 h = rw h
-
-  pub exemplar-2 : {r : Row} {q : ℕ} {why : Refusal} → rowAt s p ≡ got r q → textListAt s q ≡ fault why → Refused why ≡ answerEntry (exemplarAt s p)
-  unfolding exemplarAt
-  exemplar-2 h i = rw (h, i)
-
-  pub exemplar-all : {q v n first next : ℕ} {id : SeriesId} {time : Timestamp}
-      → rowAt s p ≡ got (record { id = id .0; time = time .0; bits = v }) q
-      → (l : Texts) × (textListAt s q ≡ got l next) × (length (l .strings) ≡ n) × (l .first ≡ first)
-      → Found (record { kind = 4; id = id; time = time; max = timestamp (pos 0); bits = v; strings = n; first = offset first; next = offset next })
-      ≡ answerEntry (exemplarAt s p)
-  unfolding exemplarAt
-  exemplar-all h (l, i, j, k) = rw (h, i, ← j, ← k)
 
   -- type 6
   pub metadata-1 : {why : Refusal} → uvarintAt s p ≡ fault why → Refused why ≡ answerEntry (metadataAt s p)

@@ -1,4 +1,5 @@
 -- The type of a body decides what the three reading calls answer first.
+use mathlib.Core.Bool.{Bool, true, false}
 use mathlib.Core.Path.{_≡_, refl, _∙_}
 use mathlib.Core.List.{List, [], _∷_}
 use Prim.Native.Nat.{ℕ, _<_}
@@ -9,12 +10,12 @@ use Rattle.wal_types.specs.declared.Refusal.the-variants.{UnknownType}
 use Rattle.body_format.specs.declared.CheckAnswer.the-variants.{Refused as CheckRefused}
 use Rattle.body_format.specs.declared.EntryAnswer.the-variants.{Refused as EntryRefused}
 use Rattle.body_format.specs.declared.StringAnswer.the-variants.{Refused as StringRefused}
-use Rattle.body_format.specs.Entries.{Kind, series, samples, tombstones, exemplars, metadata, Known, known, unknown, kindOf}
+use Rattle.body_format.specs.Entries.{Kind, series, samples, tombstones, exemplars, metadata, Known, known, unknown, kindOf, hasRows}
 use Rattle.body_format.specs.Reading.{checkKnown, checkBody, entryKnown, readEntry, stringKnown, readString}
 use Rattle.body.specs.declared.kinds.BodyKind.{BodyKind}
 use Rattle.body.specs.declared.kinds.TypeRead.{TypeRead}
 use Rattle.body.specs.declared.kinds.TypeRead.the-variants as type
-use Rattle.body.specs.Answers.{kindIn, typeFound, typeRead}
+use Rattle.body.specs.Answers.{rowsKind, kindIn, typeFound, typeRead}
 
 -- an answer by the type that was found
 abbrev pub byType : {A : Type 0} → (Refusal → A) → (Kind → A) → TypeRead → A
@@ -65,3 +66,8 @@ pub known-some : (s : List ℕ) (r : TypeRead) {k : BodyKind} → r ≡ typeRead
 unfolding typeRead
 known-some [] r e g = let z : _≡_ {A = ℕ} 0 1 = cc in absurd (omega arith)
 known-some (b ∷ s) r e g = omega arith
+
+-- with labels and without, rows are rows
+pub rows-rows : (labelled : Bool) → true ≡ hasRows (rowsKind labelled)
+rows-rows false = refl
+rows-rows true = refl

@@ -1,6 +1,6 @@
 -- The definitions' readings in the forms that the code hands from one function to the next: where a string's bytes do not matter, they are left out.
 -- Assumes nothing.
-use mathlib.Core.Bool.{cond}
+use mathlib.Core.Bool.{Bool, true, false, cond}
 use mathlib.Core.List.{List, [], _∷_}
 use Prim.Native.Nat.{ℕ, _+_}
 use lib.IntN.{ℤ}
@@ -10,10 +10,10 @@ use Rattle.wal_types.specs.declared.Refusal.the-variants.{UnknownType, EmptyBod
 use Rattle.wal_types.specs.declared.SeriesId.{SeriesId}
 use Rattle.wal_types.specs.Terms.{seriesId, timestamp}
 use Rattle.varint.specs.Fixed.{readBe8}
-use Rattle.body_format.specs.Fields.{Field, got, fault, Text, Texts}
+use Rattle.body_format.specs.Fields.{Field, got, fault, Text, Texts, textListAt}
 use Rattle.body_format.specs.Entries.{Kind, series, samples, tombstones, exemplars, metadata, Known, known, unknown, kindOf, Row, hasRows, firstAt}
 use Rattle.body.specs.declared.kinds.BodyKind.{BodyKind}
-use Rattle.body.specs.declared.kinds.BodyKind.the-variants.{Series, Samples, Tombstones, Exemplars, Metadata}
+use Rattle.body.specs.declared.kinds.BodyKind.the-variants.{Series, Rows, Tombstones, Metadata}
 use Rattle.body.specs.declared.kinds.TypeRead.{TypeRead}
 use Rattle.body.specs.declared.kinds.TypeRead.the-variants as type
 use Rattle.body.specs.declared.fields.NumberRead.{NumberRead}
@@ -32,18 +32,22 @@ use Rattle.body.specs.declared.entries.RowRead.the-variants as row
 
 -- ---- types
 
+-- rows with labels are exemplars, rows without are samples
+abbrev pub rowsKind : Bool → Kind
+rowsKind false = samples
+rowsKind true = exemplars
+
 abbrev pub kindIn : BodyKind → Kind
 kindIn Series = series
-kindIn Samples = samples
+kindIn (Rows labelled) = rowsKind labelled
 kindIn Tombstones = tombstones
-kindIn Exemplars = exemplars
 kindIn Metadata = metadata
 
 abbrev pub bodyKind : Kind → BodyKind
 bodyKind series = Series
-bodyKind samples = Samples
+bodyKind samples = Rows false
 bodyKind tombstones = Tombstones
-bodyKind exemplars = Exemplars
+bodyKind exemplars = Rows true
 bodyKind metadata = Metadata
 
 abbrev pub typeFound : Known → TypeRead
@@ -102,6 +106,11 @@ baseIn s = base (seriesId (readBe8 (drop 1 s))) (readBe8 (drop 9 s))
 abbrev pub rowRead : Field Row → RowRead
 rowRead (got r next) = row.Got (seriesId (r .id)) (timestamp (r .time)) (r .bits) next
 rowRead (fault why) = row.Fault why
+
+-- the labels behind a row; samples have none
+abbrev pub labelsRead : Bool → List ℕ → ℕ → TextListRead
+labelsRead false s p = list.Got 0 p p
+labelsRead true s p = textListRead (textListAt s p)
 
 -- the place that a field's value is
 abbrev pub placeRead : Field ℕ → Place

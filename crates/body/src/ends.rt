@@ -12,8 +12,8 @@ use crate::strings::text_list_at;
 ghost use mathlib.Core.Path.{_≡_};
 ghost use Prim.Native.Nat.{ℕ};
 ghost use Rattle.body_format.specs.Fields.{byteAt, fixedAt, uvarintAt, varintAt, textListAt};
-ghost use Rattle.body_format.specs.Entries.{rowAt, seriesAt, tombstoneAt, exemplarAt, metadataAt, entryAt};
-ghost use Rattle.body.specs.Answers.{kindIn, endOf, onward};
+ghost use Rattle.body_format.specs.Entries.{rowAt, seriesAt, tombstoneAt, metadataAt, entryAt};
+ghost use Rattle.body.specs.Answers.{kindIn, rowsKind, endOf, onward};
 
 // ---- a field behind a place, or the fault that was met before it
 
@@ -92,6 +92,18 @@ fn row_end(body: &[u8], at: usize) -> Place
     fixed_end(body, third)
 }
 
+// Types 2 and 4: a row, and its labels.
+fn row_entry_end(body: &[u8], labelled: bool, at: usize) -> Place
+    ensures { λ r. ⌜ r ≡ endOf (entryAt (rowsKind labelled) (now (body .entry)) at) ⌝ }
+{
+    let labels = row_end(body, at);
+    if labelled {
+        list_end(body, labels)
+    } else {
+        labels
+    }
+}
+
 fn series_end(body: &[u8], at: usize) -> Place
     ensures { λ r. ⌜ r ≡ endOf (seriesAt (now (body .entry)) at) ⌝ }
 {
@@ -105,13 +117,6 @@ fn tombstone_end(body: &[u8], at: usize) -> Place
     let second = fixed_end(body, Place::At(at));
     let third = varint_end(body, second);
     varint_end(body, third)
-}
-
-fn exemplar_end(body: &[u8], at: usize) -> Place
-    ensures { λ r. ⌜ r ≡ endOf (exemplarAt (now (body .entry)) at) ⌝ }
-{
-    let labels = row_end(body, at);
-    list_end(body, labels)
 }
 
 fn metadata_end(body: &[u8], at: usize) -> Place
@@ -128,9 +133,8 @@ pub(crate) fn entry_end(body: &[u8], kind: BodyKind, at: usize) -> Place
 {
     match kind {
         BodyKind::Series => series_end(body, at),
-        BodyKind::Samples => row_end(body, at),
+        BodyKind::Rows { labelled } => row_entry_end(body, labelled, at),
         BodyKind::Tombstones => tombstone_end(body, at),
-        BodyKind::Exemplars => exemplar_end(body, at),
         BodyKind::Metadata => metadata_end(body, at),
     }
 }

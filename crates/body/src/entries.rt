@@ -17,9 +17,9 @@ use wal_types::Timestamp;
 use wal_types::id_plus;
 use wal_types::time_of_bits;
 ghost use mathlib.Core.Path.{_≡_};
-ghost use Rattle.body_format.specs.Entries.{rowAt, seriesAt, sampleAt, tombstoneAt, exemplarAt, metadataAt};
+ghost use Rattle.body_format.specs.Entries.{typeByte, rowAt, seriesAt, tombstoneAt, metadataAt, entryAt};
 ghost use Rattle.body_format.specs.Reading.{answerEntry, entryOrEnd};
-ghost use Rattle.body.specs.Answers.{kindIn, base, baseIn, rowRead};
+ghost use Rattle.body.specs.Answers.{kindIn, rowsKind, base, baseIn, rowRead, labelsRead};
 
 // The first id, and the 64 bits of the first timestamp.
 pub(crate) struct Base {
@@ -107,27 +107,57 @@ fn series_at(body: &[u8], at: usize) -> EntryAnswer
     }
 }
 
-// Type 2: a row.
-fn sample_at(body: &[u8], first_id: SeriesId, first_time: u64, at: usize) -> EntryAnswer
+// The labels behind a row; samples have none.
+fn labels_at(body: &[u8], labelled: bool, at: usize) -> TextListRead
+    ensures { λ r. ⌜ r ≡ labelsRead labelled (now (body .entry)) at ⌝ }
+{
+    if labelled {
+        text_list_at(body, at)
+    } else {
+        TextListRead::Got {
+            count: 0,
+            first: at,
+            next: at,
+        }
+    }
+}
+
+fn row_type(labelled: bool) -> u8
+    ensures { λ r. ⌜ r ≡ typeByte (rowsKind labelled) ⌝ }
+{
+    if labelled { 4 } else { 2 }
+}
+
+// Types 2 and 4: a row, and its labels.
+fn row_entry_at(
+    body: &[u8],
+    labelled: bool,
+    first_id: SeriesId,
+    first_time: u64,
+    at: usize,
+) -> EntryAnswer
     requires { ⌜ base «first_id» «first_time» ≡ baseIn (now body) ⌝ }
-    ensures { λ r. ⌜ r ≡ answerEntry (sampleAt (now (body .entry)) at) ⌝ }
+    ensures { λ r. ⌜ r ≡ answerEntry (entryAt (rowsKind labelled) (now (body .entry)) at) ⌝ }
 {
     match row_at(body, first_id, first_time, at) {
         RowRead::Got {
             id,
             time,
             bits,
-            next,
-        } => EntryAnswer::Found(EntryView {
-            kind: 2,
-            id,
-            time,
-            max: Timestamp(0),
-            bits,
-            strings: 0,
-            first: Offset(next),
-            next: Offset(next),
-        }),
+            next: labels,
+        } => match labels_at(body, labelled, labels) {
+            TextListRead::Got { count, first, next } => EntryAnswer::Found(EntryView {
+                kind: row_type(labelled),
+                id,
+                time,
+                max: Timestamp(0),
+                bits,
+                strings: count,
+                first: Offset(first),
+                next: Offset(next),
+            }),
+            TextListRead::Fault(why) => EntryAnswer::Refused(why),
+        },
         RowRead::Fault(why) => EntryAnswer::Refused(why),
     }
 }
@@ -160,34 +190,6 @@ fn tombstone_at(body: &[u8], at: usize) -> EntryAnswer
             SignedRead::Fault(why) => EntryAnswer::Refused(why),
         },
         NumberRead::Fault(why) => EntryAnswer::Refused(why),
-    }
-}
-
-// Type 4: a row, and its labels.
-fn exemplar_at(body: &[u8], first_id: SeriesId, first_time: u64, at: usize) -> EntryAnswer
-    requires { ⌜ base «first_id» «first_time» ≡ baseIn (now body) ⌝ }
-    ensures { λ r. ⌜ r ≡ answerEntry (exemplarAt (now (body .entry)) at) ⌝ }
-{
-    match row_at(body, first_id, first_time, at) {
-        RowRead::Got {
-            id,
-            time,
-            bits,
-            next: labels,
-        } => match text_list_at(body, labels) {
-            TextListRead::Got { count, first, next } => EntryAnswer::Found(EntryView {
-                kind: 4,
-                id,
-                time,
-                max: Timestamp(0),
-                bits,
-                strings: count,
-                first: Offset(first),
-                next: Offset(next),
-            }),
-            TextListRead::Fault(why) => EntryAnswer::Refused(why),
-        },
-        RowRead::Fault(why) => EntryAnswer::Refused(why),
     }
 }
 
@@ -238,9 +240,8 @@ pub(crate) fn entry_or_end(
     }
     match kind {
         BodyKind::Series => series_at(body, at),
-        BodyKind::Samples => sample_at(body, first_id, first_time, at),
+        BodyKind::Rows { labelled } => row_entry_at(body, labelled, first_id, first_time, at),
         BodyKind::Tombstones => tombstone_at(body, at),
-        BodyKind::Exemplars => exemplar_at(body, first_id, first_time, at),
         BodyKind::Metadata => metadata_at(body, at),
     }
 }

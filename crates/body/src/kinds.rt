@@ -1,4 +1,4 @@
-// The five types of a body.
+// The five types of a body. Samples and exemplars are one case, rows, so that the code that reads a row has one caller and becomes one piece with it.
 use wal_types::Refusal;
 ghost use mathlib.Core.Path.{_≡_};
 ghost use Rattle.body_format.specs.Entries.{kindOf, hasRows};
@@ -6,9 +6,9 @@ ghost use Rattle.body.specs.Answers.{kindIn, typeFound, typeRead};
 
 pub(crate) enum BodyKind {
     Series,
-    Samples,
+    // Samples, and with labels exemplars.
+    Rows { labelled: bool },
     Tombstones,
-    Exemplars,
     Metadata,
 }
 
@@ -24,9 +24,9 @@ pub(crate) fn type_of(byte: u8) -> TypeRead
 {
     match byte {
         1 => TypeRead::Known(BodyKind::Series),
-        2 => TypeRead::Known(BodyKind::Samples),
+        2 => TypeRead::Known(BodyKind::Rows { labelled: false }),
         3 => TypeRead::Known(BodyKind::Tombstones),
-        4 => TypeRead::Known(BodyKind::Exemplars),
+        4 => TypeRead::Known(BodyKind::Rows { labelled: true }),
         6 => TypeRead::Known(BodyKind::Metadata),
         _ => TypeRead::Refused(Refusal::UnknownType),
     }
@@ -48,9 +48,8 @@ pub(crate) fn has_rows(kind: BodyKind) -> bool
 {
     match kind {
         BodyKind::Series => false,
-        BodyKind::Samples => true,
+        BodyKind::Rows { labelled: _ } => true,
         BodyKind::Tombstones => false,
-        BodyKind::Exemplars => true,
         BodyKind::Metadata => false,
     }
 }

@@ -1,6 +1,5 @@
 -- `entry_end` meets its contract: the end of an entry of the type.
 use borrow.Author.Needs.{needs}
-use Rattle.body.proofs.Ending.{sample-ends}
 use Rattle.body.proofs.ends.entry_end.Statement.{statement}
 use Rattle.body.proofs.ends.entry_end.Tie as tie
 
@@ -8,16 +7,13 @@ returns : tie.Need-returns
 returns c = rw (c .before .enum-told .given .1) (c .series-end .ensures)
 
 returns-2 : tie.Need-returns-2
-returns-2 c = rw (c .before .enum-told2 .given .1) (sample-ends _ _ (c .row-end .ensures))
+returns-2 c = rw (c .before .before .kind .given .1) (c .row-entry-end .ensures)
 
 returns-3 : tie.Need-returns-3
-returns-3 c = rw (c .before .enum-told3 .given .1) (c .tombstone-end .ensures)
+returns-3 c = rw (c .before .enum-told2 .given .1) (c .tombstone-end .ensures)
 
 returns-4 : tie.Need-returns-4
-returns-4 c = rw (c .before .enum-told4 .given .1) (c .exemplar-end .ensures)
-
-returns-5 : tie.Need-returns-5
-returns-5 c = rw (c .before .enum-told5 .given .1) (c .metadata-end .ensures)
+returns-4 c = rw (c .before .enum-told3 .given .1) (c .metadata-end .ensures)
 
 pub entry-end-spec : {M : Type 1} → statement M
 entry-end-spec =
@@ -31,10 +27,7 @@ entry-end-spec =
     (λ c κs. search needs)
     (λ c. search needs)
     (λ c κs. search needs)
-    (λ c. search needs)
-    (λ c κs. search needs)
     returns
     returns-2
     returns-3
-    returns-4
-    returns-5)
+    returns-4)

@@ -15,19 +15,15 @@ returns-2 c = rw (ne-eqb _ _ (c .before .before .before .if1 .left), c .before .
 
 returns-3 : tie.Need-returns-3
 unfolding entryOrEnd
-returns-3 c = rw (ne-eqb _ _ (c .before .before .before .if1 .left), c .before .enum-told2 .given .1) (c .sample-at .ensures)
+returns-3 c = rw (ne-eqb _ _ (c .before .before .before .before .if1 .left), c .before .before .kind .given .1) (c .row-entry-at .ensures)
 
 returns-4 : tie.Need-returns-4
 unfolding entryOrEnd
-returns-4 c = rw (ne-eqb _ _ (c .before .before .before .if1 .left), c .before .enum-told3 .given .1) (c .tombstone-at .ensures)
+returns-4 c = rw (ne-eqb _ _ (c .before .before .before .if1 .left), c .before .enum-told2 .given .1) (c .tombstone-at .ensures)
 
 returns-5 : tie.Need-returns-5
 unfolding entryOrEnd
-returns-5 c = rw (ne-eqb _ _ (c .before .before .before .if1 .left), c .before .enum-told4 .given .1) (c .exemplar-at .ensures)
-
-returns-6 : tie.Need-returns-6
-unfolding entryOrEnd
-returns-6 c = rw (ne-eqb _ _ (c .before .before .before .if1 .left), c .before .enum-told5 .given .1) (c .metadata-at .ensures)
+returns-5 c = rw (ne-eqb _ _ (c .before .before .before .if1 .left), c .before .enum-told3 .given .1) (c .metadata-at .ensures)
 
 pub entry-or-end-spec : {M : Type 1} → statement M
 entry-or-end-spec =
@@ -42,10 +38,7 @@ entry-or-end-spec =
     (λ c κs. search needs)
     (λ c. search needs)
     (λ c κs. search needs)
-    (λ c. search needs)
-    (λ c κs. search needs)
     returns-2
     returns-3
     returns-4
-    returns-5
-    returns-6)
+    returns-5)
