@@ -14,7 +14,7 @@ use lib.Seq.{drop-cons, length-take-le}
 use Rattle.wal_types.specs.declared.Refusal.{Refusal}
 use Rattle.varint.specs.declared.VarintRead.{VarintRead}
 use Rattle.varint.specs.declared.VarintRead.the-variants as v
-use Rattle.varint.specs.Uvarint.{readUvarint, readGroups}
+use Rattle.uvarint.specs.Uvarint.{readUvarint, readGroups}
 use Rattle.varint.specs.Varint.{readVarint}
 use Rattle.varint.specs.VarintLaws.{taken-varint}
 use Rattle.body_format.specs.declared.CheckAnswer.{CheckAnswer}

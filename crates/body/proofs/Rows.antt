@@ -5,7 +5,7 @@ use mathlib.Core.List.{List}
 use Prim.Native.Nat.{ℕ}
 use lib.IntN.{ℤ, pos}
 use lib.ListN.{length, drop}
-use Rattle.varint.specs.Fixed.{readBe8}
+use Rattle.big_endian.specs.Fixed.{readBe8}
 use Rattle.wal_types.specs.declared.Refusal.{Refusal}
 use Rattle.wal_types.specs.declared.SeriesId.{SeriesId}
 use Rattle.wal_types.specs.declared.Timestamp.{Timestamp}

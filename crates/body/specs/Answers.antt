@@ -9,7 +9,7 @@ use lib.ListN.{length, drop}
 use Rattle.wal_types.specs.declared.Refusal.the-variants.{UnknownType, EmptyBody}
 use Rattle.wal_types.specs.declared.SeriesId.{SeriesId}
 use Rattle.wal_types.specs.Terms.{seriesId, timestamp}
-use Rattle.varint.specs.Fixed.{readBe8}
+use Rattle.big_endian.specs.Fixed.{readBe8}
 use Rattle.body_format.specs.Fields.{Field, got, fault, Text, Texts, textListAt}
 use Rattle.body_format.specs.Entries.{Kind, series, samples, tombstones, exemplars, metadata, Known, known, unknown, kindOf, Row, hasRows, firstAt}
 use Rattle.body.specs.declared.kinds.BodyKind.{BodyKind}

@@ -42,8 +42,8 @@ pub(crate) enum RowRead {
 pub(crate) fn base_of(body: &[u8]) -> Base
     ensures { λ r. ⌜ r ≡ baseIn (now (body .entry)) ⌝ }
 {
-    let id = varint::get_be8(body, 1);
-    let time = varint::get_be8(body, 9);
+    let id = big_endian::get_be8(body, 1);
+    let time = big_endian::get_be8(body, 9);
     Base {
         id: SeriesId(id),
         time,

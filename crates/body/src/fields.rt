@@ -1,5 +1,5 @@
 // The fields of a body, each read at its place. A fault is at the field's first byte.
-use varint::UvarintRead;
+use uvarint::UvarintRead;
 use varint::VarintRead;
 use wal_types::Offset;
 use wal_types::Refusal;
@@ -46,7 +46,7 @@ pub(crate) fn fixed_at(body: &[u8], at: usize) -> NumberRead
     if body.len() - at < 8 {
         return NumberRead::Fault(Refusal::Short(Offset(at)));
     }
-    let value = varint::get_be8(body, at);
+    let value = big_endian::get_be8(body, at);
     let next = at + 8;
     NumberRead::Got { value, next }
 }
@@ -69,7 +69,7 @@ pub(crate) fn uvarint_at(body: &[u8], at: usize) -> NumberRead
 fn long_uvarint_at(body: &[u8], at: usize) -> NumberRead
     ensures { λ r. ⌜ r ≡ numberRead (uvarintAt (now (body .entry)) at) ⌝ }
 {
-    match varint::get_uvarint(body, at) {
+    match uvarint::get_uvarint(body, at) {
         UvarintRead::Value { n, len } => {
             let next = at + len;
             NumberRead::Got { value: n, next }

@@ -12,7 +12,7 @@ use Rattle.wal_types.specs.declared.Refusal.{Refusal}
 use Rattle.wal_types.specs.declared.Refusal.the-variants.{BadPlace, TooLong, NoRoom, BadList, WrongKind}
 use Rattle.wal_types.specs.Terms.{offset}
 use Rattle.wal_types.specs.Deltas.{toBits}
-use Rattle.varint.specs.Uvarint.{uvarint}
+use Rattle.uvarint.specs.Uvarint.{uvarint}
 use Rattle.body_format.specs.Entries.{Entry, seriesEntry, exemplarEntry, metadataEntry, typeByte, kindFor}
 use Rattle.body_format.specs.Building.{Outcome, used, refused, badState, add, addBytes, entryBytes, rowBytes, textListBytes, cutTexts, badList}
 use Rattle.body_format.specs.Laws.Additions.{state-past, accepted}

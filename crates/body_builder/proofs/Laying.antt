@@ -6,8 +6,8 @@ use native.Mathlib.Omega.{arith}
 use lib.ListN.{length, getD, take, drop, set, length-set, drop-of-length-le, length-append}
 use lib.Seq.{sets, length-sets}
 use Rattle.copying.specs.CopiedLaws.{sets-append, part-length}
-use Rattle.varint.specs.Put.{putAt, putEnd}
-use Rattle.varint.specs.Uvarint.{uvarint}
+use Rattle.copying.specs.Put.{putAt, putEnd}
+use Rattle.uvarint.specs.Uvarint.{uvarint}
 use Rattle.body_format.specs.Building.{textBytes, textsBytes, textListBytes, cutTexts, total}
 use Rattle.body_format.specs.Laws.Strings.{length-cut, cut-step, total-step}
 use Rattle.body_builder.proofs.Putting.{Put, put-first, room-then, put-then}

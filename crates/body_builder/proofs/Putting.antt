@@ -5,8 +5,8 @@ use Prim.Native.Nat.{ℕ, _+_, _≤_}
 use native.Mathlib.Omega.{arith}
 use lib.ListN.{length, length-append}
 use lib.Seq.{sets, length-sets}
-use Rattle.varint.specs.Put.{putAt, putEnd}
-use Rattle.varint.specs.PutLaws.{put-fits, end-fits}
+use Rattle.copying.specs.Put.{putAt, putEnd}
+use Rattle.copying.specs.PutLaws.{put-fits, end-fits}
 use Rattle.copying.specs.CopiedLaws.{sets-append}
 
 -- the bytes vs stand from place `at` on, d′ is the slice then, and r the place after them

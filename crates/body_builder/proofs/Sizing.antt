@@ -10,10 +10,10 @@ use lib.Dec.{ltb, eqb}
 use lib.ListN.{length, getD, drop, drop-of-length-le, length-drop}
 use lib.Seq.{drop-cons}
 use Rattle.wal_types.specs.Deltas.{minus}
-use Rattle.varint.specs.Put.{putAt, putEnd}
-use Rattle.varint.specs.Uvarint.{uvarint}
-use Rattle.varint.specs.UvarintLaws.{length-at-least-1}
-use Rattle.varint.specs.Fixed.{be8, readBe8}
+use Rattle.copying.specs.Put.{putAt, putEnd}
+use Rattle.uvarint.specs.Uvarint.{uvarint}
+use Rattle.uvarint.specs.UvarintLaws.{length-at-least-1}
+use Rattle.big_endian.specs.Fixed.{be8, readBe8}
 use Rattle.body_format.specs.Building.{textsBytes, textListBytes, cutTexts, total, badList, rowBytes}
 use Rattle.body_format.specs.Laws.Fields.{length-list}
 use Rattle.body_format.specs.Laws.Strings.{length-cut, length-cut-texts, row-first, row-later, length-row-first, length-row-later}

@@ -9,9 +9,9 @@ use lib.ListN.{length, drop}
 use Rattle.wal_types.specs.declared.Refusal.the-variants.{BadPlace, TooLong, NoRoom, BadList, WrongKind}
 use Rattle.wal_types.specs.Terms.{offset}
 use Rattle.wal_types.specs.Deltas.{minus}
-use Rattle.varint.specs.Uvarint.{uvarint}
+use Rattle.uvarint.specs.Uvarint.{uvarint}
 use Rattle.varint.specs.Varint.{varint}
-use Rattle.varint.specs.Fixed.{be8, readBe8}
+use Rattle.big_endian.specs.Fixed.{be8, readBe8}
 use Rattle.body_format.specs.Entries.{Known, known, unknown}
 use Rattle.body_format.specs.Building.{Outcome, used, refused, badState}
 use Rattle.body_builder.specs.declared.Added.{Added}

@@ -104,8 +104,8 @@ pub(crate) fn admit(buffer: &[u8], kind: u8, used: usize, want: u8, bad: bool, s
 pub(crate) fn deltas_of(buffer: &[u8], id: SeriesId, time: Timestamp) -> Deltas
     ensures { λ r. ⌜ r ≡ deltasIn (now (buffer .entry)) (id .0) (toBits (time .0)) ⌝ }
 {
-    let first_id = varint::get_be8(buffer, 1);
-    let first_time = varint::get_be8(buffer, 9);
+    let first_id = big_endian::get_be8(buffer, 1);
+    let first_time = big_endian::get_be8(buffer, 9);
     let from_id = id_delta(id, SeriesId(first_id));
     let bits = time_bits(time);
     let from_time = std::num::wrapping_sub_u64(bits, first_time);
@@ -122,8 +122,8 @@ pub(crate) fn row_size(used: usize, row: Deltas) -> usize
     if used == 1 {
         return 26;
     }
-    let first = varint::uvarint_len(row.id);
-    let second = varint::uvarint_len(row.time);
+    let first = uvarint::uvarint_len(row.id);
+    let second = uvarint::uvarint_len(row.time);
     let both = first + second;
     both + 8
 }
@@ -134,9 +134,9 @@ fn put_deltas(buffer: &mut [u8], at: usize, id: u64, time: u64, bits: u64) -> us
     ensures { λ r. ⌜ r ≡ at + length (rowTail id time bits) ⌝ }
     ensures { λ _. ⌜ now (buffer .exit) ≡ sets (now (buffer .entry)) at (rowTail id time bits) ⌝ }
 {
-    let second = varint::put_uvarint(buffer, at, id);
-    let third = varint::put_uvarint(buffer, second, time);
-    varint::put_be8(buffer, third, bits)
+    let second = uvarint::put_uvarint(buffer, at, id);
+    let third = uvarint::put_uvarint(buffer, second, time);
+    big_endian::put_be8(buffer, third, bits)
 }
 
 // What types 2 and 4 share: a row.
@@ -153,8 +153,8 @@ pub(crate) fn put_row(
     ensures { λ _. ⌜ now (buffer .exit) ≡ sets (now (buffer .entry)) at (rowBytes (now (buffer .entry)) at (id .0) (toBits (time .0)) bits) ⌝ }
 {
     if at == 1 {
-        let second = varint::put_be8(buffer, at, id.0);
-        let third = varint::put_be8(buffer, second, time_bits(time));
+        let second = big_endian::put_be8(buffer, at, id.0);
+        let third = big_endian::put_be8(buffer, second, time_bits(time));
         return put_deltas(buffer, third, 0, 0, bits);
     }
     put_deltas(buffer, at, row.id, row.time, bits)
@@ -181,7 +181,7 @@ pub(crate) fn put_tombstone(
     ensures { λ r. ⌜ r ≡ at + length (entryBytes (now (buffer .entry)) at (tombstoneEntry (id .0) (min .0) (max .0))) ⌝ }
     ensures { λ _. ⌜ now (buffer .exit) ≡ sets (now (buffer .entry)) at (entryBytes (now (buffer .entry)) at (tombstoneEntry (id .0) (min .0) (max .0))) ⌝ }
 {
-    let second = varint::put_be8(buffer, at, id.0);
+    let second = big_endian::put_be8(buffer, at, id.0);
     let third = varint::put_varint(buffer, second, min.0);
     varint::put_varint(buffer, third, max.0)
 }
@@ -197,7 +197,7 @@ pub(crate) fn put_series(
     ensures { λ r. ⌜ r ≡ at + length (entryBytes (now (buffer .entry)) at (seriesEntry (id .0) (cutTexts (now (strings .entry)) (now (lengths .entry))))) ⌝ }
     ensures { λ _. ⌜ now (buffer .exit) ≡ sets (now (buffer .entry)) at (entryBytes (now (buffer .entry)) at (seriesEntry (id .0) (cutTexts (now (strings .entry)) (now (lengths .entry))))) ⌝ }
 {
-    let list = varint::put_be8(buffer, at, id.0);
+    let list = big_endian::put_be8(buffer, at, id.0);
     put_list(buffer, list, strings, lengths)
 }
 
@@ -213,7 +213,7 @@ pub(crate) fn put_metadata(
     ensures { λ r. ⌜ r ≡ at + length (entryBytes (now (buffer .entry)) at (metadataEntry (id .0) metric (cutTexts (now (strings .entry)) (now (lengths .entry))))) ⌝ }
     ensures { λ _. ⌜ now (buffer .exit) ≡ sets (now (buffer .entry)) at (entryBytes (now (buffer .entry)) at (metadataEntry (id .0) metric (cutTexts (now (strings .entry)) (now (lengths .entry))))) ⌝ }
 {
-    let second = varint::put_uvarint(buffer, at, id.0);
+    let second = uvarint::put_uvarint(buffer, at, id.0);
     buffer[second] = metric;
     let list = second + 1;
     put_list(buffer, list, strings, lengths)

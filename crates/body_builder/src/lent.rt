@@ -45,7 +45,7 @@ pub(crate) fn list_size(strings: &[u8], lengths: &[u64]) -> usize
         return 65537;
     }
     let pairs = (lengths.len() / 2) as u64;
-    let count = varint::uvarint_len(pairs);
+    let count = uvarint::uvarint_len(pairs);
     let heads = heads_size(lengths);
     let both = count + heads;
     both + strings.len()
@@ -59,7 +59,7 @@ fn heads_size(lengths: &[u64]) -> usize
     let mut size: usize = 0;
     let mut i: usize = 0;
     while i < lengths.len() {
-        let head = varint::uvarint_len(lengths[i]);
+        let head = uvarint::uvarint_len(lengths[i]);
         size += head;
         i += 1;
     }
@@ -73,7 +73,7 @@ pub(crate) fn put_list(buffer: &mut [u8], at: usize, strings: &[u8], lengths: &[
     ensures { λ _. ⌜ now (buffer .exit) ≡ sets (now (buffer .entry)) at (textListBytes (cutTexts (now (strings .entry)) (now (lengths .entry)))) ⌝ }
 {
     let pair_count = (lengths.len() / 2) as u64;
-    let first = varint::put_uvarint(buffer, at, pair_count);
+    let first = uvarint::put_uvarint(buffer, at, pair_count);
     put_texts(buffer, first, strings, lengths)
 }
 
@@ -89,7 +89,7 @@ fn put_texts(buffer: &mut [u8], at: usize, strings: &[u8], lengths: &[u64]) -> u
     while i < lengths.len() {
         let head = lengths[i];
         let count = head as usize;
-        let start = varint::put_uvarint(buffer, place, head);
+        let start = uvarint::put_uvarint(buffer, place, head);
         copying::copy(strings, from, count, buffer, start);
         place = start + count;
         from += count;

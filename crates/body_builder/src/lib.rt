@@ -171,7 +171,7 @@ impl Body {
         let at = self.used.0;
         let bad = list_is_bad(strings, lengths);
         let list = list_size(strings, lengths);
-        let head = varint::uvarint_len(id.0) + 1;
+        let head = uvarint::uvarint_len(id.0) + 1;
         let size = head + list;
         match admit(&*buffer, self.kind, at, 6, bad, size) {
             Gate::Open => {

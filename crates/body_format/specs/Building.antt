@@ -10,9 +10,9 @@ use Rattle.wal_types.specs.declared.Refusal.{Refusal}
 use Rattle.wal_types.specs.declared.Refusal.the-variants.{BadPlace, TooLong, NoRoom, UnknownType, BadList, WrongKind}
 use Rattle.wal_types.specs.Terms.{offset}
 use Rattle.wal_types.specs.Deltas.{minus, toBits}
-use Rattle.varint.specs.Uvarint.{uvarint}
+use Rattle.uvarint.specs.Uvarint.{uvarint}
 use Rattle.varint.specs.Varint.{varint}
-use Rattle.varint.specs.Fixed.{be8, readBe8}
+use Rattle.big_endian.specs.Fixed.{be8, readBe8}
 use Rattle.body_format.specs.Entries.{typeByte, Known, known, unknown, kindOf, Entry, seriesEntry, sampleEntry, tombstoneEntry, exemplarEntry, metadataEntry, kindFor}
 
 -- ---- the bytes of an entry

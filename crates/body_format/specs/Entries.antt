@@ -7,7 +7,7 @@ use lib.IntN.{ℤ}
 use lib.ListN.{length, drop}
 use lib.Dec.{eqb}
 use Rattle.wal_types.specs.Deltas.{plus, fromBits}
-use Rattle.varint.specs.Fixed.{readBe8}
+use Rattle.big_endian.specs.Fixed.{readBe8}
 use Rattle.body_format.specs.Fields.{Field, got, andThen, byteAt, fixedAt, uvarintAt, varintAt, textListAt}
 
 -- ---- types

@@ -9,13 +9,13 @@ use lib.Dec.{ltb}
 use Rattle.wal_types.specs.declared.Refusal.{Refusal}
 use Rattle.wal_types.specs.declared.Refusal.the-variants.{Short, BadVarint}
 use Rattle.wal_types.specs.Terms.{offset}
-use Rattle.varint.specs.declared.UvarintRead.{UvarintRead}
-use Rattle.varint.specs.declared.UvarintRead.the-variants as u
+use Rattle.uvarint.specs.declared.UvarintRead.{UvarintRead}
+use Rattle.uvarint.specs.declared.UvarintRead.the-variants as u
 use Rattle.varint.specs.declared.VarintRead.{VarintRead}
 use Rattle.varint.specs.declared.VarintRead.the-variants as v
-use Rattle.varint.specs.Uvarint.{readUvarint}
+use Rattle.uvarint.specs.Uvarint.{readUvarint}
 use Rattle.varint.specs.Varint.{readVarint}
-use Rattle.varint.specs.Fixed.{readBe8}
+use Rattle.big_endian.specs.Fixed.{readBe8}
 
 -- what reading at a place finds: a value and the place after it, or a fault
 pub data Field (A : Type 0) : Type 0 where

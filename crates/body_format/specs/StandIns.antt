@@ -8,9 +8,9 @@ use Prim.Native.Nat.{ℕ, suc}
 use native.Mathlib.Omega.{arith}
 use lib.IntN.{pos, negsuc}
 use lib.ListN.{length, take, replicate}
-use Rattle.varint.specs.Uvarint.{groups, uvarint, after, readGroups, readUvarint}
+use Rattle.uvarint.specs.Uvarint.{groups, uvarint, after, readGroups, readUvarint}
 use Rattle.varint.specs.Varint.{zigzag, unzigzag, varint, signed, readVarint}
-use Rattle.varint.specs.Fixed.{be4, be8, readBe4, readBe8}
+use Rattle.big_endian.specs.Fixed.{be4, be8, readBe4, readBe8}
 use Rattle.wal_types.specs.declared.Refusal.the-variants.{NoRoom, Short}
 use Rattle.wal_types.specs.Terms.{offset}
 use Rattle.body_format.specs.declared.CheckAnswer.{CheckAnswer}

@@ -1,2 +1,4 @@
 pub mod Copied
 pub mod CopiedLaws
+pub mod Put
+pub mod PutLaws

@@ -1,4 +1,4 @@
-// Copies bytes from one lent slice to another.
+// Copies bytes from one lent slice to another. Its specs also say what a put of bytes leaves in a lent slice, for every crate that puts some.
 ghost use mathlib.Core.Path.{_≡_};
 ghost use Prim.Native.Nat.{_+_, _-_, _*_, _/_, _≤_};
 ghost use lib.ListN.{length, take, drop};

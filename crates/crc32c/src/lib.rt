@@ -3,15 +3,14 @@
 mod nibbles;
 
 ghost use mathlib.Core.Path.{_≡_};
-ghost use Prim.Native.Nat.{ℕ, _+_, _-_, _*_, _/_, _%_, _<_, _≤_};
+ghost use Prim.Native.Nat.{_+_, _-_, _*_, _/_, _%_, _<_, _≤_, min};
 ghost use lib.ListN.{length, take, drop};
 ghost use lib.Bits.{bitXor};
-ghost use Rattle.crc32c_format.specs.Crc.{bitStep, bitSteps, register, crc32c};
+ghost use Rattle.crc32c_format.specs.Crc.{bitSteps, register, crc32c};
 ghost use Rattle.crc32c_format.specs.Bytes.{littleEndian};
-ghost use Rattle.crc32c_format.specs.Table.{sliceTable, nibbleTable};
+ghost use Rattle.crc32c_format.specs.Table.{nibbleTable};
 ghost use Rattle.crc32c_format.specs.Lent.{lookUp2, lookUp4, tableStep1, tableStep4, tableStep8, steps, eightsEnd, foursEnd, tableRegister, sumBy};
-ghost use Rattle.crc32c_format.specs.Method.Tables.{Filled};
-ghost use Rattle.crc32c_format.specs.Method.Fold.{Folded, Rest};
+ghost use Rattle.crc32c_format.specs.Method.Fold.{Folded, Slid, Cleared, Rest};
 
 // ---- bytes as a number, the first lowest
 
@@ -166,7 +165,11 @@ fn short(state: u32, s: &[u8]) -> u32
 
 // ---- by folding
 
-// Folds the first n bytes of m into y. No byte is read again before 154 bytes more are stored; from 128 on, the compiler takes 16 at once.
+// The buffer holds the window, which is the last 290 bytes of what was folded, and room for 2,048 more. It need not hold the whole message:
+// what is to come depends on the window alone.
+
+// Folds the first n bytes of m into y, behind the window. No byte is read again before 154 bytes more are stored; from 128 on, the compiler
+// takes 16 at once.
 fn fold(y: &mut [u8], m: &[u8], n: usize)
     requires { ⌜ (n ≤ length (now m)) × (n + 290 ≤ length (now y)) ⌝ }
     ensures { λ r. ⌜ Folded (now (m .entry)) (now (y .entry)) (now (y .exit)) n ⌝ }
@@ -178,61 +181,70 @@ fn fold(y: &mut [u8], m: &[u8], n: usize)
     }
 }
 
-// The last 290 bytes of m, with what y puts onto them.
-fn rest(r: &mut [u8], y: &[u8], m: &[u8], n: usize)
-    requires { ⌜ (length (now r) ≡ 290) × (length (now m) ≡ n + 290) × (n + 580 ≤ length (now y)) ⌝ }
-    ensures { λ q. ⌜ Rest (now (m .entry)) (now (y .entry)) (now (r .exit)) n ⌝ }
+// The window, moved to the front of y after n bytes more were folded.
+fn slide(y: &mut [u8], n: usize)
+    requires { ⌜ n + 290 ≤ length (now y) ⌝ }
+    ensures { λ r. ⌜ Slid (now (y .entry)) (now (y .exit)) n ⌝ }
 {
-    let mut j = 0;
-    while j < 290 {
-        let i = n + j;
-        r[j] = m[i] ^ (y[i + 136] ^ y[i + 113] ^ y[i + 107] ^ y[i + 32] ^ y[i]);
-        j += 1;
+    let mut i = 0;
+    while i < 290 {
+        y[i] = y[i + n];
+        i += 1;
     }
 }
 
-// The register after a block: the bytes of a slice that is long enough to fold, and not too long for the buffer.
-fn block(state: u32, m: &[u8]) -> u32
-    requires { ⌜ (290 ≤ length (now m)) × (length (now m) ≤ 8192) ⌝ }
+// No byte is behind the window.
+fn clear(y: &mut [u8])
+    requires { ⌜ 426 ≤ length (now y) ⌝ }
+    ensures { λ r. ⌜ Cleared (now (y .entry)) (now (y .exit)) ⌝ }
+{
+    let mut i = 290;
+    while i < 426 {
+        y[i] = 0;
+        i += 1;
+    }
+}
+
+// The last 290 bytes of the message, with what the window puts onto them.
+fn rest(r: &mut [u8], y: &[u8], m: &[u8])
+    requires { ⌜ (length (now r) ≡ 290) × (length (now m) ≡ 290) × (426 ≤ length (now y)) ⌝ }
+    ensures { λ q. ⌜ Rest (now (m .entry)) (now (y .entry)) (now (r .exit)) ⌝ }
+{
+    let mut i = 0;
+    while i < 290 {
+        r[i] = m[i] ^ (y[i + 136] ^ y[i + 113] ^ y[i + 107] ^ y[i + 32] ^ y[i]);
+        i += 1;
+    }
+}
+
+fn smaller(a: usize, b: usize) -> usize
+    ensures { λ r. ⌜ r ≡ min a b ⌝ }
+{
+    if a < b { a } else { b }
+}
+
+// The register after the bytes of a slice, for long data: all but the last 290 are folded onto those.
+fn long(state: u32, m: &[u8]) -> u32
+    requires { ⌜ 290 ≤ length (now m) ⌝ }
     ensures { λ r. ⌜ r ≡ register state (now (m .entry)) ⌝ }
 {
-    let n = m.len() - 290;
-    let mut y = [0u8; 8482];
+    let mut y = [0u8; 2338];
     y[0] = (state % 256) as u8;
     y[1] = (state / 256 % 256) as u8;
     y[2] = (state / 256 / 256 % 256) as u8;
     y[3] = (state / 256 / 256 / 256) as u8;
-    fold(&mut y, m, n);
-    let mut r = [0u8; 290];
-    rest(&mut r, &y, m, n);
-    short(0, &r)
-}
-
-// The register after the bytes of a slice of at most a block: by a fold, where that is quicker.
-fn within_block(state: u32, s: &[u8]) -> u32
-    requires { ⌜ length (now s) ≤ 8192 ⌝ }
-    ensures { λ r. ⌜ r ≡ register state (now (s .entry)) ⌝ }
-{
-    if 512 <= s.len() {
-        block(state, s)
-    } else {
-        short(state, s)
-    }
-}
-
-// The register after the bytes of a slice, for long data: block by block.
-fn long(state: u32, s: &[u8]) -> u32
-    ensures { λ r. ⌜ r ≡ register state (now (s .entry)) ⌝ }
-{
-    let n = s.len();
-    let mut c = state;
+    let last = m.len() - 290;
     let mut i = 0;
-    while 8192 <= n - i {
-        let e = i + 8192;
-        c = block(c, &s[i..e]);
-        i = e;
+    while i < last {
+        let n = smaller(last - i, 2048);
+        fold(&mut y, &m[i..], n);
+        slide(&mut y, n);
+        i += n;
     }
-    within_block(c, &s[i..])
+    clear(&mut y);
+    let mut r = [0u8; 290];
+    rest(&mut r, &y, &m[last..]);
+    short(0, &r)
 }
 
 // The register after the bytes of a slice, from any register: data may come in parts.
@@ -246,72 +258,24 @@ pub fn update(state: u32, bytes: &[u8]) -> u32
     }
 }
 
+// The checksum of long data. It has several callers, which keeps the compiler from merging it, with its buffer, into the path of short data;
+// `&bytes[0..]`, as in `short`, has them pass address and length.
+fn long_sum(bytes: &[u8]) -> u32
+    requires { ⌜ 290 ≤ length (now bytes) ⌝ }
+    ensures { λ r. ⌜ r ≡ crc32c (now (bytes .entry)) ⌝ }
+{
+    long(0xFFFF_FFFF, &bytes[0..]) ^ 0xFFFF_FFFF
+}
+
 // The checksum of a slice.
 pub fn checksum(bytes: &[u8]) -> u32
     ensures { λ r. ⌜ r ≡ crc32c (now (bytes .entry)) ⌝ }
 {
-    update(0xFFFF_FFFF, bytes) ^ 0xFFFF_FFFF
-}
-
-// The checksum of long data. Two callers of `long` keep the compiler from merging it, with its large buffer, into the path of short data.
-fn long_sum(bytes: &[u8]) -> u32
-    ensures { λ r. ⌜ r ≡ crc32c (now (bytes .entry)) ⌝ }
-{
-    long(0xFFFF_FFFF, bytes) ^ 0xFFFF_FFFF
-}
-
-// ---- the table to lend
-
-fn bit_step(c: u32) -> u32
-    ensures { λ r. ⌜ r ≡ bitStep c ⌝ }
-{
-    (c % 2 * 0x82F6_3B78) ^ (c / 2)
-}
-
-fn byte_steps(x: u32) -> u32
-    ensures { λ r. ⌜ r ≡ bitSteps 8 x ⌝ }
-{
-    let mut c = x;
-    let mut i: usize = 0;
-    while i < 8 {
-        c = bit_step(c);
-        i += 1;
+    if bytes.len() < 512 {
+        short(0xFFFF_FFFF, bytes) ^ 0xFFFF_FFFF
+    } else {
+        long_sum(bytes)
     }
-    c
-}
-
-// Row 0: what is left of each byte after its own eight bits.
-fn fill_first_row(table: &mut [u32])
-    requires { ⌜ length (now table) ≡ 2048 ⌝ }
-    ensures { λ r. ⌜ Filled (now (table .exit)) 256 ⌝ }
-{
-    let mut i = 0;
-    while i < 256 {
-        table[i] = byte_steps(i as u32);
-        i += 1;
-    }
-}
-
-// Each later entry is eight bits on from the one before it in its column.
-fn fill_other_rows(table: &mut [u32])
-    requires { ⌜ Filled (now table) 256 ⌝ }
-    ensures { λ r. ⌜ Filled (now (table .exit)) 2048 ⌝ }
-{
-    let mut i = 256;
-    while i < 2048 {
-        let above = table[i - 256];
-        let low = (above % 256) as usize;
-        table[i] = table[low] ^ (above / 256);
-        i += 1;
-    }
-}
-
-// Fills the table that a caller lends.
-pub fn fill_table(table: &mut [u32; 2048])
-    ensures { λ r. ⌜ now (table .exit) ≡ sliceTable ⌝ }
-{
-    fill_first_row(table);
-    fill_other_rows(table);
 }
 
 // ---- by a lent table

@@ -17,7 +17,7 @@ pub extern "C" fn depot_wal_crc32c(bytes: &[u8]) -> u32
 pub extern "C" fn depot_wal_table(table: &mut [u32; 2048])
     ensures { λ _. ⌜ now (table .exit) ≡ sliceTable ⌝ }
 {
-    crc32c::fill_table(table);
+    crc32c_table::fill_table(table);
 }
 
 // The checksum by a lent table; with the table that `depot_wal_table` fills it is CRC-32C.

@@ -5,11 +5,11 @@ use mathlib.Core.Bool.{true, false}
 use mathlib.Core.List.{List}
 use lib.Dec.{eqb}
 use lib.IntN.{ℤ, pos, negsuc}
-use Rattle.varint.specs.declared.UvarintRead.{UvarintRead}
-use Rattle.varint.specs.declared.UvarintRead.the-variants as unsigned
+use Rattle.uvarint.specs.declared.UvarintRead.{UvarintRead}
+use Rattle.uvarint.specs.declared.UvarintRead.the-variants as unsigned
 use Rattle.varint.specs.declared.VarintRead.{VarintRead}
 use Rattle.varint.specs.declared.VarintRead.the-variants.{Value, Short, BadVarint}
-use Rattle.varint.specs.Uvarint.{uvarint, readUvarint}
+use Rattle.uvarint.specs.Uvarint.{uvarint, readUvarint}
 
 -- 2x for x ≥ 0, and −2x − 1 for x < 0: `negsuc n` is −(n + 1), and −2 · −(n + 1) − 1 is 2n + 1
 unfoldable pub zigzag : ℤ → ℕ

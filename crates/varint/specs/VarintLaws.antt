@@ -9,11 +9,11 @@ use lib.Dec.{eqb}
 use lib.IntN.{ℤ, pos, negsuc}
 use lib.ListN.{length, getD}
 use lib.Signed.{mag}
-use Rattle.varint.specs.declared.UvarintRead.{UvarintRead}
-use Rattle.varint.specs.declared.UvarintRead.the-variants as unsigned
+use Rattle.uvarint.specs.declared.UvarintRead.{UvarintRead}
+use Rattle.uvarint.specs.declared.UvarintRead.the-variants as unsigned
 use Rattle.varint.specs.declared.VarintRead.the-variants.{Value, Short}
-use Rattle.varint.specs.Uvarint.{readUvarint}
-use Rattle.varint.specs.UvarintLaws.{Taken, taken, read-uvarint, append-read, length-at-least-1, length-at-most-10, uvarint-bytes}
+use Rattle.uvarint.specs.Uvarint.{readUvarint}
+use Rattle.uvarint.specs.UvarintLaws.{Taken, taken, read-uvarint, append-read, length-at-least-1, length-at-most-10, uvarint-bytes}
 use Rattle.varint.specs.Varint.{zigzag, unzigzag, varint, signed, readVarint}
 
 -- The zigzag. `mag` of n is n and of −(n + 1) is n, so an i64 is a signed number of which `mag` is below 2 ^ 63.

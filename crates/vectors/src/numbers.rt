@@ -1,7 +1,7 @@
 // The checksum's vectors, and varints written and read.
 ghost use Prim.Native.Nat.{_≤_};
 use crate::print;
-use varint::UvarintRead;
+use uvarint::UvarintRead;
 
 // RFC 3720, appendix B.4: a SCSI read command, 48 bytes.
 const READ_COMMAND: [u8; 48] = [
@@ -166,11 +166,11 @@ pub(crate) fn uvarints() {
 
 fn uvarint(n: u64) {
     let mut buffer = [0u8; 10];
-    let end = varint::put_uvarint(&mut buffer, 0, n);
+    let end = uvarint::put_uvarint(&mut buffer, 0, n);
     print::text(b"uvarint ");
     print::number(n);
     print::space();
-    print::number(varint::uvarint_len(n) as u64);
+    print::number(uvarint::uvarint_len(n) as u64);
     print::space();
     print::bytes(&buffer, end);
     print::end_line();
@@ -251,7 +251,7 @@ fn reading(data: &[u8]) {
         print::text(b"-");
     }
     print::bytes(data, data.len());
-    match varint::get_uvarint(data, 0) {
+    match uvarint::get_uvarint(data, 0) {
         UvarintRead::Value { n, len } => {
             print::text(b" value ");
             print::number(n);

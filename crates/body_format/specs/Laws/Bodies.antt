@@ -11,8 +11,8 @@ use lib.Seq.{length-take-le, getD-drop}
 use lib.Dec.{eqb}
 use Rattle.wal_types.specs.Deltas.{minus, toBits}
 use Rattle.wal_types.specs.DeltaLaws.{to-lt}
-use Rattle.varint.specs.Fixed.{be8, readBe8}
-use Rattle.varint.specs.FixedLaws.{length-be8, read-be8, read-be8-fits}
+use Rattle.big_endian.specs.Fixed.{be8, readBe8}
+use Rattle.big_endian.specs.FixedLaws.{length-be8, read-be8, read-be8-fits}
 use Rattle.body_format.specs.Fields.{got}
 use Rattle.body_format.specs.Entries.{Kind, typeByte, hasRows, Entry, seriesEntry, sampleEntry, tombstoneEntry, exemplarEntry, metadataEntry, kindFor, Placed, entryAt, entriesFrom, firstAt, entries}
 use Rattle.body_format.specs.Building.{textListBytes, rowBytes, entryBytes}

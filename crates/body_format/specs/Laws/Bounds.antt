@@ -10,12 +10,12 @@ use lib.ListN.{length, take, drop, length-drop}
 use lib.Dec.{ltb}
 use Rattle.wal_types.specs.declared.Refusal.the-variants.{Short}
 use Rattle.wal_types.specs.Terms.{offset}
-use Rattle.varint.specs.declared.UvarintRead.{UvarintRead}
-use Rattle.varint.specs.declared.UvarintRead.the-variants as u
+use Rattle.uvarint.specs.declared.UvarintRead.{UvarintRead}
+use Rattle.uvarint.specs.declared.UvarintRead.the-variants as u
 use Rattle.varint.specs.declared.VarintRead.{VarintRead}
 use Rattle.varint.specs.declared.VarintRead.the-variants as v
-use Rattle.varint.specs.Uvarint.{readUvarint}
-use Rattle.varint.specs.UvarintLaws.{taken}
+use Rattle.uvarint.specs.Uvarint.{readUvarint}
+use Rattle.uvarint.specs.UvarintLaws.{taken}
 use Rattle.varint.specs.Varint.{readVarint}
 use Rattle.varint.specs.VarintLaws.{taken-varint}
 use Rattle.body_format.specs.Fields.{Field, got, fault, andThen, byteAt, fixedAt, uvarintOf, uvarintAt, varintOf, varintAt, Text, textAt, textsAt, textListAt}

@@ -10,9 +10,9 @@ use lib.Signed.{mag}
 use lib.ListN.{length, drop, length-append}
 use Rattle.wal_types.specs.Deltas.{minus, toBits}
 use Rattle.wal_types.specs.DeltaLaws.{from-to, to-lt, plus-minus, minus-lt}
-use Rattle.varint.specs.Uvarint.{uvarint}
+use Rattle.uvarint.specs.Uvarint.{uvarint}
 use Rattle.varint.specs.Varint.{varint}
-use Rattle.varint.specs.Fixed.{be8, readBe8}
+use Rattle.big_endian.specs.Fixed.{be8, readBe8}
 use Rattle.body_format.specs.Fields.{got}
 use Rattle.body_format.specs.Entries.{hasRows, Entry, seriesEntry, sampleEntry, tombstoneEntry, exemplarEntry, metadataEntry, kindFor, rowAt, seriesAt, sampleAt, tombstoneAt, exemplarAt, metadataAt, entryAt}
 use Rattle.body_format.specs.Building.{textListBytes, deltaBytes, rowBytes, entryBytes}

@@ -11,16 +11,16 @@ use lib.Seq.{drop-append-le, take-append-le}
 use lib.Dec.{ltb}
 use Rattle.wal_types.specs.declared.Refusal.the-variants.{Short}
 use Rattle.wal_types.specs.Terms.{offset}
-use Rattle.varint.specs.declared.UvarintRead.{UvarintRead}
-use Rattle.varint.specs.declared.UvarintRead.the-variants as u
+use Rattle.uvarint.specs.declared.UvarintRead.{UvarintRead}
+use Rattle.uvarint.specs.declared.UvarintRead.the-variants as u
 use Rattle.varint.specs.declared.VarintRead.{VarintRead}
 use Rattle.varint.specs.declared.VarintRead.the-variants as v
-use Rattle.varint.specs.Uvarint.{readUvarint}
-use Rattle.varint.specs.UvarintLaws.{taken, append-value}
+use Rattle.uvarint.specs.Uvarint.{readUvarint}
+use Rattle.uvarint.specs.UvarintLaws.{taken, append-value}
 use Rattle.varint.specs.Varint.{readVarint}
 use Rattle.varint.specs.VarintLaws.{taken-varint, append-value-varint}
-use Rattle.varint.specs.Fixed.{readBe8}
-use Rattle.varint.specs.FixedLaws.{append-be8}
+use Rattle.big_endian.specs.Fixed.{readBe8}
+use Rattle.big_endian.specs.FixedLaws.{append-be8}
 use Rattle.body_format.specs.Fields.{Field, got, fault, andThen, byteAt, fixedAt, uvarintOf, uvarintAt, varintOf, varintAt, Text, textAt, textsAt, textListAt}
 use Rattle.body_format.specs.Entries.{Kind, series, samples, tombstones, exemplars, metadata, hasRows, rowAt, seriesAt, sampleAt, tombstoneAt, exemplarAt, metadataAt, entryAt}
 use Rattle.body_format.specs.Laws.Fields.{byte-got, byte-short, fixed-got, fixed-short}

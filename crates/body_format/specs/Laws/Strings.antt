@@ -12,11 +12,11 @@ use lib.ListN.{length, getD, take, drop, length-append}
 use lib.Seq.{drop-cons, drop-drop, length-take-le}
 use lib.Dec.{eqb}
 use Rattle.wal_types.specs.Deltas.{minus, toBits}
-use Rattle.varint.specs.Uvarint.{uvarint}
-use Rattle.varint.specs.UvarintLaws.{length-one}
+use Rattle.uvarint.specs.Uvarint.{uvarint}
+use Rattle.uvarint.specs.UvarintLaws.{length-one}
 use Rattle.varint.specs.Varint.{varint}
-use Rattle.varint.specs.Fixed.{be8, readBe8}
-use Rattle.varint.specs.FixedLaws.{length-be8}
+use Rattle.big_endian.specs.Fixed.{be8, readBe8}
+use Rattle.big_endian.specs.FixedLaws.{length-be8}
 use Rattle.body_format.specs.Entries.{seriesEntry, sampleEntry, tombstoneEntry, exemplarEntry, metadataEntry}
 use Rattle.body_format.specs.Building.{textsBytes, textListBytes, deltaBytes, rowBytes, entryBytes, cutTexts, total, badList}
 use Rattle.body_format.specs.Laws.Fields.{length-texts}

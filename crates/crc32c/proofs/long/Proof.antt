@@ -1,81 +1,154 @@
--- Block by block. The invariant: the register so far, with the bytes to come, makes what the whole makes.
+-- The window slides over the message. The invariant: it is the window after the first i bytes.
 use borrow.Author.Needs.{needs}
 use native.Mathlib.Omega.{arith}
-use mathlib.Core.Path.{_≡_, ap, _∙_}
-use Prim.Native.Nat.{ℕ, _+_, _-_, _≤_}
-use lib.ListN.{length, take, drop, length-drop}
-use lib.Seq.{length-take-le, take-all}
-use Rattle.crc32c_format.specs.Crc.{register}
-use Rattle.crc32c_format.specs.Method.Parts.{register-take}
+use mathlib.Core.Path.{_≡_, refl, subst, _∙_}
+use mathlib.Core.List.{List}
+use Prim.Native.Nat.{ℕ, _+_, _-_, _≤_, _<_}
+use lib.ListN.{length, getD, take, drop, length-drop}
+use lib.Seq.{length-take-le, getD-take, getD-drop}
+use Rattle.crc32c_format.specs.Method.Window.{Window, window-start, window-slide, register-fold}
 use Rattle.crc32c.proofs.long.Statement.{statement}
 use Rattle.crc32c.proofs.long.Tie as tie
 
+-- the bytes of m from i on
+length-behind : (m : List ℕ) (i : ℕ) → i ≤ length m → length (take (length m - i) (drop i m)) ≡ length m - i
+length-behind m i h = length-take-le (length m - i) (drop i m) (rw length-drop (omega arith))
+
+getD-behind : (m : List ℕ) (i j : ℕ) → i + j < length m → getD (take (length m - i) (drop i m)) j 0 ≡ getD m (i + j) 0
+getD-behind m i j h = getD-take (length m - i) (drop i m) j 0 (omega arith) ∙ getD-drop i m j 0
+
 abbrev Inv-loop : tie.InvT-loop
-Inv-loop state s n c₀ i₀ c i = (i ≤ length s) × (register c (drop i s) ≡ register state s)
+Inv-loop state m y₀ last i₀ y i = (i ≤ last) × (length y ≡ 2338) × Window m state y i
 
 abbrev μ-loop : tie.MeasureT-loop
-μ-loop state s n c₀ i₀ c i = length s - i
+μ-loop state m y₀ last i₀ y i = last - i
+
+cast-y : tie.Need-cast-y Inv-loop μ-loop
+cast-y c = search needs
+
+array-write-y : tie.Need-array-write-y Inv-loop μ-loop
+array-write-y c = search needs
+
+cast-y-2 : tie.Need-cast-y-2 Inv-loop μ-loop
+cast-y-2 c = search needs
+
+array-write-y-2 : tie.Need-array-write-y-2 Inv-loop μ-loop
+array-write-y-2 c = search needs
+
+cast-y-3 : tie.Need-cast-y-3 Inv-loop μ-loop
+cast-y-3 c = search needs
+
+array-write-y-3 : tie.Need-array-write-y-3 Inv-loop μ-loop
+array-write-y-3 c = search needs
+
+cast-y-4 : tie.Need-cast-y-4 Inv-loop μ-loop
+cast-y-4 c = search needs
+
+array-write-y-4 : tie.Need-array-write-y-4 Inv-loop μ-loop
+array-write-y-4 c = search needs
+
+sub-last : tie.Need-sub-last Inv-loop μ-loop
+sub-last c = search needs
 
 loop-holds : tie.Need-loop-holds Inv-loop μ-loop
-loop-holds c = search needs
+loop-holds c =
+    (search needs, refl, window-start 2334 (c .before .args .state) (c .before .args .m .now) (search needs))
 
-sub-loop : tie.Need-sub-loop Inv-loop μ-loop
-sub-loop c = search needs
+sub-smaller : tie.Need-sub-smaller Inv-loop μ-loop
+sub-smaller c = search needs
 
-add-e : tie.Need-add-e Inv-loop μ-loop
-add-e c = search needs
+smaller-requires : tie.Need-smaller-requires Inv-loop μ-loop
+smaller-requires c κs = search needs
 
-sub-block : tie.Need-sub-block Inv-loop μ-loop
-sub-block c = search needs
+slice-aggregate-fold : tie.Need-slice-aggregate-fold Inv-loop μ-loop
+slice-aggregate-fold c = search needs
 
-part-block-start : tie.Need-part-block-start Inv-loop μ-loop
-part-block-start c = search needs
+sub-fold : tie.Need-sub-fold Inv-loop μ-loop
+sub-fold c = search needs
 
-part-block-end : tie.Need-part-block-end Inv-loop μ-loop
-part-block-end c = search needs
+part-fold-start : tie.Need-part-fold-start Inv-loop μ-loop
+part-fold-start c = search needs
 
-block-requires : tie.Need-block-requires Inv-loop μ-loop
-block-requires c κs =
-    let i = c .before .before .loop .i in
-    let s = c .before .before .before .before .args .s .now in
-    let e : length (take (i + 8192 - i) (drop i s)) ≡ i + 8192 - i = length-take-le (i + 8192 - i) (drop i s) (rw length-drop (omega arith)) in
-    (omega arith, omega arith)
+part-fold-end : tie.Need-part-fold-end Inv-loop μ-loop
+part-fold-end c = search needs
+
+fold-requires : tie.Need-fold-requires Inv-loop μ-loop
+fold-requires c κs =
+    let b = c .before .before .before .before in
+    let l = length-behind (b .before .before .args .m .now) (b .loop .i) (omega arith) in
+    (omega (arith, c .before .before .smaller .ensures), omega (arith, c .before .before .smaller .ensures, b .loop .inv .1))
+
+slice-aggregate-slide : tie.Need-slice-aggregate-slide Inv-loop μ-loop
+slice-aggregate-slide c = search needs
+
+slide-requires : tie.Need-slide-requires Inv-loop μ-loop
+slide-requires c κs =
+    let l : length (c .before .before .fold .last .0) ≡ 2338 = c .before .y2 .given in
+    omega (arith, c .before .before .before .before .before .smaller .ensures)
+
+add-i : tie.Need-add-i Inv-loop μ-loop
+add-i c = search needs
 
 loop-less : tie.Need-loop-less Inv-loop μ-loop
-loop-less c = search needs
+loop-less c = omega (arith, c .before .before .before .before .before .before .before .smaller .ensures)
 
 loop-again : tie.Need-loop-again Inv-loop μ-loop
 loop-again c =
-    let b = c .before .before .before in
+    let b = c .before .before .before .before .before .before .before .before .before in
+    let m = b .before .before .args .m .now in
     let i = b .loop .i in
-    let s = b .before .before .args .s .now in (
+    let n = c .before .before .before .before .before .before .before .smaller .result in
+    let l : length (c .before .before .before .before .fold .last .0) ≡ 2338 = c .before .before .before .y2 .given in (
+      omega (arith, c .before .before .before .before .before .before .before .smaller .ensures),
       search needs,
-      ap (λ (k : ℕ). register (c .block .result) (drop k s)) {x = i + 8192} {y = i + (i + 8192 - i)} (omega arith)
-          ∙ register-take (i + 8192 - i) (b .loop .c) s i (c .block .ensures) ∙ b .loop .inv .1,
+      window-slide m (take (length m - i) (drop i m)) (b .loop .y) (c .before .before .before .before .fold .last .0) (c .before .slide .last .0) (b .before .before .args .state) i n (b .loop .inv .2)
+          (c .before .before .before .before .fold .ensures) (c .before .slide .ensures) (omega (arith, c .before .before .before .before .before .before .before .smaller .ensures, l))
+          (λ j h. getD-behind m i j (omega (arith, c .before .before .before .before .before .before .before .smaller .ensures))),
     )
 
-sub-within-block : tie.Need-sub-within-block Inv-loop μ-loop
-sub-within-block c = search needs
+slice-aggregate-clear : tie.Need-slice-aggregate-clear Inv-loop μ-loop
+slice-aggregate-clear c = search needs
 
-part-within-block-start : tie.Need-part-within-block-start Inv-loop μ-loop
-part-within-block-start c = search needs
+clear-requires : tie.Need-clear-requires Inv-loop μ-loop
+clear-requires c κs = search needs
 
-part-within-block-end : tie.Need-part-within-block-end Inv-loop μ-loop
-part-within-block-end c = search needs
+slice-aggregate-rest : tie.Need-slice-aggregate-rest Inv-loop μ-loop
+slice-aggregate-rest c = search needs
 
-within-block-requires : tie.Need-within-block-requires Inv-loop μ-loop
-within-block-requires c κs =
-    let i = c .before .before .loop .i in
-    let s = c .before .before .before .before .args .s .now in
-    let e : length (take (length s - i) (drop i s)) ≡ length s - i = length-take-le (length s - i) (drop i s) (rw length-drop (omega arith)) in
-    omega arith
+slice-aggregate-rest-2 : tie.Need-slice-aggregate-rest-2 Inv-loop μ-loop
+slice-aggregate-rest-2 c = search needs
+
+sub-rest : tie.Need-sub-rest Inv-loop μ-loop
+sub-rest c = search needs
+
+part-rest-start : tie.Need-part-rest-start Inv-loop μ-loop
+part-rest-start c = search needs
+
+part-rest-end : tie.Need-part-rest-end Inv-loop μ-loop
+part-rest-end c = search needs
+
+rest-requires : tie.Need-rest-requires Inv-loop μ-loop
+rest-requires c κs =
+    let m = c .before .before .before .before .before .before .before .before .before .args .m .now in
+    let l : length (c .before .before .before .before .clear .last .0) ≡ 2338 = c .before .before .before .y6 .given in
+    (refl, length-behind m (length m - 290) (omega arith) ∙ omega arith, omega (arith, l))
+
+slice-aggregate-short : tie.Need-slice-aggregate-short Inv-loop μ-loop
+slice-aggregate-short c = search needs
+
+short-requires : tie.Need-short-requires Inv-loop μ-loop
+short-requires c κs = search needs
 
 returns : tie.Need-returns Inv-loop μ-loop
 returns c =
-    let b = c .before .before .before in
-    let i = b .loop .i in
-    let s = b .before .before .args .s .now in
-    c .within-block .ensures ∙ ap (register (b .loop .c)) (take-all (length s - i) (drop i s) (rw length-drop (omega arith))) ∙ b .loop .inv .1
+    let a = c .before .before .before .before .before .before .before .before .before .before .before .before .before .args in
+    let b = c .before .before .before .before .before .before .before .before .before .before .before in
+    let m = a .m .now in
+    let last = length m - 290 in
+    c .short .ensures
+    ∙ register-fold m (take (length m - last) (drop last m)) (b .loop .y) (c .before .before .before .before .before .before .before .before .clear .last .0) (c .before .before .before .rest .last .0) (a .state) last
+    (subst (Window m (a .state) (b .loop .y)) {x = b .loop .i} {y = last} (omega arith) (b .loop .inv .2))
+    (c .before .before .before .before .before .before .before .before .clear .ensures) (c .before .before .before .rest .ensures) (λ j h. getD-behind m last j (omega arith)) (omega arith) (search needs)
 
 pub long-spec : {M : Type 1} → statement M
 long-spec =
@@ -83,17 +156,36 @@ long-spec =
     (tie.spec
     Inv-loop
     μ-loop
+    cast-y
+    array-write-y
+    cast-y-2
+    array-write-y-2
+    cast-y-3
+    array-write-y-3
+    cast-y-4
+    array-write-y-4
+    sub-last
     loop-holds
-    sub-loop
-    add-e
-    sub-block
-    part-block-start
-    part-block-end
-    block-requires
+    sub-smaller
+    smaller-requires
+    slice-aggregate-fold
+    sub-fold
+    part-fold-start
+    part-fold-end
+    fold-requires
+    slice-aggregate-slide
+    slide-requires
+    add-i
     loop-less
     loop-again
-    sub-within-block
-    part-within-block-start
-    part-within-block-end
-    within-block-requires
+    slice-aggregate-clear
+    clear-requires
+    slice-aggregate-rest
+    slice-aggregate-rest-2
+    sub-rest
+    part-rest-start
+    part-rest-end
+    rest-requires
+    slice-aggregate-short
+    short-requires
     returns)

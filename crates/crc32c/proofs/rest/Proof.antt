@@ -1,4 +1,4 @@
--- What the fold leaves. The invariant: the first j bytes are so, and y holds bytes.
+-- What the window leaves of the last bytes. The invariant: the first i of them are so.
 use borrow.Author.Needs.{needs}
 use native.Mathlib.Omega.{arith}
 use mathlib.Core.Path.{_≡_, _∙_, refl}
@@ -11,17 +11,14 @@ use Rattle.crc32c.proofs.rest.Statement.{statement}
 use Rattle.crc32c.proofs.rest.Tie as tie
 
 abbrev Inv-loop : tie.InvT-loop
-Inv-loop r₀ y m n j₀ r j =
-    (j ≤ 290) × (length r ≡ 290) × ((k : ℕ) → k < j → getD r k 0 ≡ bitXor (getD m (n + k) 0) (taps y (n + k))) × ((k : ℕ) → 0 < j → getD y k 0 < 256)
+Inv-loop r₀ y m i₀ r i =
+    (i ≤ 290) × (length r ≡ 290) × ((k : ℕ) → k < i → getD r k 0 ≡ bitXor (getD m k 0) (taps y k))
 
 abbrev μ-loop : tie.MeasureT-loop
-μ-loop r₀ y m n j₀ r j = 290 - j
+μ-loop r₀ y m i₀ r i = 290 - i
 
 loop-holds : tie.Need-loop-holds Inv-loop μ-loop
-loop-holds c = (search needs, search needs, λ k h. absurd (omega arith), λ k h. absurd (omega arith))
-
-add-i : tie.Need-add-i Inv-loop μ-loop
-add-i c = search needs
+loop-holds c = (search needs, search needs, λ k h. absurd (omega arith))
 
 shared-slice-read-r : tie.Need-shared-slice-read-r Inv-loop μ-loop
 shared-slice-read-r c = search needs
@@ -56,8 +53,8 @@ shared-slice-read-r-6 c = search needs
 slice-write-r : tie.Need-slice-write-r Inv-loop μ-loop
 slice-write-r c = search needs
 
-add-j : tie.Need-add-j Inv-loop μ-loop
-add-j c = search needs
+add-i : tie.Need-add-i Inv-loop μ-loop
+add-i c = search needs
 
 loop-less : tie.Need-loop-less Inv-loop μ-loop
 loop-less c = search needs
@@ -65,12 +62,11 @@ loop-less c = search needs
 loop-again : tie.Need-loop-again Inv-loop μ-loop
 unfolding taps
 loop-again c =
-    let b = c .before .before .before .before .before .before .before in
-    let a = b .before .args in (
+    let b = c .before .before .before .before .before .before in
+    let a = b .before .before .args in (
       search needs,
-      length-set (b .loop .r) (b .loop .j) _ ∙ b .loop .inv .1,
-      set-more (λ (k : ℕ). bitXor (getD (a .m .now) (a .n + k) 0) (taps (a .y .now) (a .n + k))) (b .loop .r) (b .loop .j) (omega arith) refl (b .loop .inv .2),
-      λ k h. omega (arith, c .shared-slice-known6 .given k),
+      length-set (b .before .loop .r) (b .before .loop .i) _ ∙ b .before .loop .inv .1,
+      set-more (λ (k : ℕ). bitXor (getD (a .m .now) k 0) (taps (a .y .now) k)) (b .before .loop .r) (b .before .loop .i) (omega arith) refl (b .before .loop .inv .2),
     )
 
 same-length : tie.Need-same-length Inv-loop μ-loop
@@ -79,7 +75,7 @@ same-length c = search needs
 returns : tie.Need-returns Inv-loop μ-loop
 returns c =
     let b = c .before in
-    record { len = b .loop .inv .1; bytes = λ k. b .loop .inv .3 k (omega arith); byte = λ j h. b .loop .inv .2 j (omega arith) }
+    record { len = b .loop .inv .1; byte = λ j h. b .loop .inv .2 j (omega arith) }
 
 pub rest-spec : {M : Type 1} → statement M
 rest-spec =
@@ -88,7 +84,6 @@ rest-spec =
     Inv-loop
     μ-loop
     loop-holds
-    add-i
     shared-slice-read-r
     add-r
     shared-slice-read-r-2
@@ -100,7 +95,7 @@ rest-spec =
     shared-slice-read-r-5
     shared-slice-read-r-6
     slice-write-r
-    add-j
+    add-i
     loop-less
     loop-again
     same-length

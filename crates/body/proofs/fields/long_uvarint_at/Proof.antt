@@ -3,7 +3,7 @@ use borrow.Author.Needs.{needs}
 use native.Mathlib.Omega.{arith}
 use mathlib.Core.Path.{sym, ap, _∙_}
 use lib.ListN.{length-drop}
-use Rattle.varint.specs.UvarintLaws.{taken}
+use Rattle.uvarint.specs.UvarintLaws.{taken}
 use Rattle.body_format.specs.Laws.Fields.{uvarint-got, uvarint-short, uvarint-bad}
 use Rattle.body.specs.Answers.{numberRead}
 use Rattle.body.proofs.fields.long_uvarint_at.Statement.{statement}

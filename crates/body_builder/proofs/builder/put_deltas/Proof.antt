@@ -1,7 +1,7 @@
 -- `put_deltas` meets its contract: three puts in a row.
 use borrow.Author.Needs.{needs}
-use Rattle.varint.specs.Uvarint.{uvarint}
-use Rattle.varint.specs.Fixed.{be8}
+use Rattle.uvarint.specs.Uvarint.{uvarint}
+use Rattle.big_endian.specs.Fixed.{be8}
 use Rattle.body_builder.specs.Sizes.{rowTail}
 use Rattle.body_builder.proofs.Putting.{put-three}
 use Rattle.body_builder.proofs.builder.put_deltas.Statement.{statement}

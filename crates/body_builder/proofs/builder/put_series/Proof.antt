@@ -2,7 +2,7 @@
 use borrow.Author.Needs.{needs}
 use Prim.Native.Nat.{ℕ}
 use mathlib.Core.List.{List}
-use Rattle.varint.specs.Fixed.{be8}
+use Rattle.big_endian.specs.Fixed.{be8}
 use Rattle.body_format.specs.Building.{entryBytes, textListBytes, cutTexts}
 use Rattle.body_builder.proofs.Putting.{Put, put-first, room-then, put-then}
 use Rattle.body_builder.proofs.builder.put_series.Statement.{statement}

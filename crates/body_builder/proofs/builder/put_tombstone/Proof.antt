@@ -3,7 +3,7 @@ use borrow.Author.Needs.{needs, sfits-of}
 use mir.Syntax.{w64}
 use mir.Facts.{toZ-ofZ}
 use Rattle.varint.specs.Varint.{varint}
-use Rattle.varint.specs.Fixed.{be8}
+use Rattle.big_endian.specs.Fixed.{be8}
 use Rattle.body_format.specs.Building.{entryBytes}
 use Rattle.body_builder.proofs.Putting.{put-three}
 use Rattle.body_builder.proofs.builder.put_tombstone.Statement.{statement}

@@ -1,0 +1,91 @@
+-- Laws of fixed fields: length, bytes and bounds, and that reading takes back what was written.
+use Prim.Native.Nat.{ℕ, zero, suc, _+_, _*_, _/_, _%_, _^_, _≤_, _<_}
+use mathlib.Core.Bool.{Bool, true, false}
+use mathlib.Core.List.{List, [], _∷_, _++_}
+use mathlib.Core.Path.{_≡_, refl, sym, ap, ap₂, _∙_}
+use native.Mathlib.Nat.{add-zero}
+use native.Mathlib.Omega.{arith}
+use borrow.Author.Tests.{le-leb, lt-leb}
+use lib.Dec.{leb}
+use lib.ListN.{length, drop, getD, length-append, length-drop, List·getD-append}
+use lib.Pow.{mod-pow-add}
+use lib.Seq.{drop-append-le, getD-drop}
+use Rattle.big_endian.specs.Fixed.{be4, be8, readBe4, readBe8}
+
+pub length-be8 : (x : ℕ) → length (be8 x) ≡ 8
+unfolding be4 be8
+length-be8 x = refl
+
+-- where eight bytes are there, and where not
+pub read-whole : (s : List ℕ) → 8 ≤ length s → readBe8 s ≡ readBe4 s * 2 ^ 32 + readBe4 (drop 4 s)
+unfolding readBe8
+read-whole s h = rw (le-leb 8 (length s) h, readBe8)
+
+pub read-short : (s : List ℕ) → length s < 8 → readBe8 s ≡ 0
+unfolding readBe8
+read-short s h = rw (lt-leb 8 (length s) h, readBe8)
+
+-- four bytes, taken off from the highest
+joined : (a b c d u v w : ℕ) → w ≡ a + v → v ≡ b + u → u ≡ c + d → a + b + c + d ≡ w
+joined a b c d u v w p q r = omega arith
+
+read-be4 : (x : ℕ) (rest : List ℕ) → readBe4 (be4 x ++ rest) ≡ x % 2 ^ 32
+unfolding be4 readBe4
+read-be4 x rest = joined _ _ _ _ _ _ _ (mod-pow-add x 8 24) (mod-pow-add x 8 16) (mod-pow-add x 8 8)
+
+-- every 64-bit number, whatever follows it
+pub read-be8 : (x : ℕ) (rest : List ℕ) → x < 2 ^ 64 → readBe8 (be8 x ++ rest) ≡ x
+unfolding be8 be4
+read-be8 x rest h =
+    read-whole (be8 x ++ rest) (omega arith)
+    ∙ ap₂ (λ (a b : ℕ). a * 2 ^ 32 + b) (read-be4 (x / 2 ^ 32) (be4 x ++ rest)) (read-be4 x rest)
+    ∙ omega arith
+
+-- bytes below 256 say a number of 64 bits
+read-be4-fits : (s : List ℕ) → ((i : ℕ) → getD s i 0 < 256) → readBe4 s < 2 ^ 32
+unfolding readBe4
+read-be4-fits s h = omega (arith, h 0, h 1, h 2, h 3)
+
+pub read-be8-fits : (s : List ℕ) → ((i : ℕ) → getD s i 0 < 256) → readBe8 s < 2 ^ 64
+unfolding readBe8
+read-be8-fits s h = go (leb 8 (length s)) refl
+  where
+    go : (t : Bool) → leb 8 (length s) ≡ t → readBe8 s < 2 ^ 64
+    go true e =
+        let high : readBe4 s < 2 ^ 32 = read-be4-fits s h in
+        let low : readBe4 (drop 4 s) < 2 ^ 32 = read-be4-fits (drop 4 s) (λ i. rw getD-drop (h (4 + i))) in
+        rw (e, readBe8) (omega arith)
+    go false e = rw (e, readBe8) (omega arith)
+
+-- every byte is below 256
+be4-bytes : (x : ℕ) (s : List ℕ) → ((i : ℕ) → getD s i 0 < 256) → (i : ℕ) → getD (be4 x ++ s) i 0 < 256
+unfolding be4
+be4-bytes x s h zero = omega arith
+be4-bytes x s h (suc zero) = omega arith
+be4-bytes x s h (suc (suc zero)) = omega arith
+be4-bytes x s h (suc (suc (suc zero))) = omega arith
+be4-bytes x s h (suc (suc (suc (suc i)))) = h i
+
+pub be8-bytes : (x i : ℕ) → getD (be8 x) i 0 < 256
+unfolding be8 be4
+be8-bytes x = be4-bytes (x / 2 ^ 32) (be4 x) (be4-bytes x [] (λ i. omega arith))
+
+-- bytes that follow do not change what eight bytes say
+append-be4 : (s t : List ℕ) → 4 ≤ length s → readBe4 (s ++ t) ≡ readBe4 s
+unfolding readBe4
+append-be4 s t h =
+    rw (List·getD-append s t 0 0 (omega arith), List·getD-append s t 0 1 (omega arith), List·getD-append s t 0 2 (omega arith), List·getD-append s t 0 3 (omega arith))
+
+pub append-be8 : (s t : List ℕ) → 8 ≤ length s → readBe8 (s ++ t) ≡ readBe8 s
+append-be8 s t h =
+    read-whole (s ++ t) (rw length-append (omega arith))
+    ∙ ap₂ (λ (a b : ℕ). a * 2 ^ 32 + b) (append-be4 s t (omega arith))
+    (ap readBe4 (drop-append-le 4 s t (omega arith)) ∙ append-be4 (drop 4 s) t (rw length-drop (omega arith)))
+    ∙ sym (read-whole s h)
+
+-- the bytes at a place of a slice
+pub read-be4-at : (s : List ℕ) (at : ℕ)
+    → readBe4 (drop at s)
+    ≡ getD s at 0 * 2 ^ 24 + getD s (at + 1) 0 * 2 ^ 16 + getD s (at + 2) 0 * 2 ^ 8 + getD s (at + 3) 0
+unfolding readBe4
+read-be4-at s at = rw (getD-drop at s 0 0, getD-drop at s 1 0, getD-drop at s 2 0, getD-drop at s 3 0, add-zero at)

@@ -1,0 +1,73 @@
+// Fields of eight bytes, the highest first, as document 01 lays them down in a body.
+//
+// No public function has a `requires`. A place is an index into the lent slice. A put that does not fit changes no byte
+// and hands back the place it was given; otherwise it hands back the place after the last byte it put.
+ghost use mathlib.Core.Path.{_≡_};
+ghost use Prim.Native.Nat.{_+_, _≤_, _<_, _^_};
+ghost use lib.ListN.{length, drop};
+ghost use lib.Seq.{sets};
+ghost use Rattle.copying.specs.Put.{putAt, putEnd};
+ghost use Rattle.big_endian.specs.Fixed.{be4, be8, readBe4, readBe8};
+
+// Puts the eight bytes of x at a place of buf.
+pub fn put_be8(buf: &mut [u8], at: usize, x: u64) -> usize
+    ensures { λ r. ⌜ r ≡ putEnd (now (buf .entry)) at (be8 x) ⌝ }
+    ensures { λ _. ⌜ now (buf .exit) ≡ putAt (now (buf .entry)) at (be8 x) ⌝ }
+{
+    if buf.len() < at {
+        return at;
+    }
+    if buf.len() - at < 8 {
+        return at;
+    }
+    let middle = write_half(buf, at, x / 0x1_0000_0000);
+    write_half(buf, middle, x)
+}
+
+// Writes the four lowest bytes of x at a place that has room for them; the place after them.
+fn write_half(buf: &mut [u8], at: usize, x: u64) -> usize
+    requires { ⌜ at + 4 ≤ length (now buf) ⌝ }
+    ensures { λ r. ⌜ r ≡ at + 4 ⌝ }
+    ensures { λ _. ⌜ now (buf .exit) ≡ sets (now (buf .entry)) at (be4 x) ⌝ }
+{
+    let second = at + 1;
+    let third = at + 2;
+    let fourth = at + 3;
+    buf[at] = (x / 0x100_0000 % 256) as u8;
+    buf[second] = (x / 0x1_0000 % 256) as u8;
+    buf[third] = (x / 0x100 % 256) as u8;
+    buf[fourth] = (x % 256) as u8;
+    at + 4
+}
+
+// Reads the eight bytes at a place of buf; 0 where fewer are there.
+pub fn get_be8(buf: &[u8], at: usize) -> u64
+    ensures { λ r. ⌜ r ≡ readBe8 (drop at (now (buf .entry))) ⌝ }
+{
+    if buf.len() < at {
+        return 0;
+    }
+    if buf.len() - at < 8 {
+        return 0;
+    }
+    let middle = at + 4;
+    let high = read_half(buf, at);
+    let low = read_half(buf, middle);
+    high * 0x1_0000_0000 + low
+}
+
+// Reads the four bytes at a place that has them.
+fn read_half(buf: &[u8], at: usize) -> u64
+    requires { ⌜ at + 4 ≤ length (now buf) ⌝ }
+    ensures { λ r. ⌜ r ≡ readBe4 (drop at (now (buf .entry))) ⌝ }
+    ensures { λ r. ⌜ r < 2 ^ 32 ⌝ }
+{
+    let second = at + 1;
+    let third = at + 2;
+    let fourth = at + 3;
+    let a = buf[at] as u64;
+    let b = buf[second] as u64;
+    let c = buf[third] as u64;
+    let d = buf[fourth] as u64;
+    a * 0x100_0000 + b * 0x1_0000 + c * 0x100 + d
+}

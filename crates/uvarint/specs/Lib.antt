@@ -1,0 +1,2 @@
+pub mod Uvarint
+pub mod UvarintLaws
