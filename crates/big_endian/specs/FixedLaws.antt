@@ -1,7 +1,7 @@
 -- Laws of fixed fields: length, bytes and bounds, and that reading takes back what was written.
-use Prim.Native.Nat.{ℕ, zero, suc, _+_, _*_, _/_, _%_, _^_, _≤_, _<_}
+use Prim.Native.Nat.{ℕ, _+_, _*_, _/_, _%_, _^_, _≤_, _<_}
 use mathlib.Core.Bool.{Bool, true, false}
-use mathlib.Core.List.{List, [], _∷_, _++_}
+use mathlib.Core.List.{List, _++_}
 use mathlib.Core.Path.{_≡_, refl, sym, ap, ap₂, _∙_}
 use native.Mathlib.Nat.{add-zero}
 use native.Mathlib.Omega.{arith}
@@ -56,19 +56,6 @@ read-be8-fits s h = go (leb 8 (length s)) refl
         let low : readBe4 (drop 4 s) < 2 ^ 32 = read-be4-fits (drop 4 s) (λ i. rw getD-drop (h (4 + i))) in
         rw (e, readBe8) (omega arith)
     go false e = rw (e, readBe8) (omega arith)
-
--- every byte is below 256
-be4-bytes : (x : ℕ) (s : List ℕ) → ((i : ℕ) → getD s i 0 < 256) → (i : ℕ) → getD (be4 x ++ s) i 0 < 256
-unfolding be4
-be4-bytes x s h zero = omega arith
-be4-bytes x s h (suc zero) = omega arith
-be4-bytes x s h (suc (suc zero)) = omega arith
-be4-bytes x s h (suc (suc (suc zero))) = omega arith
-be4-bytes x s h (suc (suc (suc (suc i)))) = h i
-
-pub be8-bytes : (x i : ℕ) → getD (be8 x) i 0 < 256
-unfolding be8 be4
-be8-bytes x = be4-bytes (x / 2 ^ 32) (be4 x) (be4-bytes x [] (λ i. omega arith))
 
 -- bytes that follow do not change what eight bytes say
 append-be4 : (s t : List ℕ) → 4 ≤ length s → readBe4 (s ++ t) ≡ readBe4 s

@@ -6,7 +6,7 @@ use mathlib.Core.Logic.{⊎-elim}
 use Prim.Native.Nat.{ℕ, _-_, _<_, _≤_}
 use native.Mathlib.Omega.{arith}
 use borrow.Author.Tests.{lt-ltb, le-ltb}
-use lib.Bits.{bitXor, xor-lt}
+use lib.Bits.{bitXor}
 use lib.ListN.{length, getD, take, drop}
 use lib.Seq.{take-length}
 use Rattle.crc32c_format.specs.Crc.{register, crc32c}
@@ -48,10 +48,6 @@ sumBy-slices d h =
     ∙ ap (λ (c : ℕ). bitXor c 0xFFFFFFFF) (tableRegister-slices 0xFFFFFFFF d (omega arith) h))
     (sumBy-long sliceTable d)
     (lt-or-ge (length d) 512)
-
-pub crc32c-lt : (d : List ℕ) → ((k : ℕ) → getD d k 0 < 256) → crc32c d < 4294967296
-unfolding crc32c
-crc32c-lt d h = xor-lt 32 (register 0xFFFFFFFF d) 0xFFFFFFFF (steps.register-lt 0xFFFFFFFF d (omega arith) h) (omega arith)
 
 -- a slice s that is handed on as `&s[0..]`
 pub whole-part : (s : List ℕ) → take (length s - 0) (drop 0 s) ≡ s

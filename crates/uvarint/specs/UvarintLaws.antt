@@ -72,9 +72,6 @@ length-at-least-1 n = go (ltb n 128) refl
     go true e = omega (arith, length-one n (ltb-true n 128 e))
     go false e = omega (arith, length-more n (ltb-false n 128 e))
 
-pub length-at-most-10 : (n : ℕ) → n < 2 ^ 64 → length (uvarint n) ≤ 10
-length-at-most-10 n h = at-most 9 n h
-
 groups-bytes : (f n i : ℕ) → n ≤ f → getD (groups f n) i 0 < 256
 unfolding groups
 groups-bytes zero n zero h = omega arith
@@ -87,10 +84,6 @@ groups-bytes (suc f) n i h = go (ltb n 128) refl i (groups-bytes f (n / 128))
     go true e (suc i) ih = rw (e, groups) (omega arith)
     go false e zero ih = rw (e, groups) (omega arith)
     go false e (suc i) ih = let l : 128 ≤ n = ltb-false n 128 e in rw (e, groups) (ih i (omega arith))
-
-pub uvarint-bytes : (n i : ℕ) → getD (uvarint n) i 0 < 256
-unfolding uvarint
-uvarint-bytes n i = groups-bytes n n i (omega arith)
 
 -- Reading takes it back.
 

@@ -1,5 +1,5 @@
 -- Laws of the zigzag and the varint: each way takes the other back, lengths and bounds, and that reading takes a varint back.
-use Prim.Native.Nat.{ℕ, _+_, _*_, _%_, _^_, _≤_, _<_}
+use Prim.Native.Nat.{ℕ, _+_, _*_, _%_, _^_, _<_}
 use mathlib.Core.Bool.{Bool, true, false}
 use mathlib.Core.List.{List, _++_}
 use mathlib.Core.Path.{_≡_, refl, sym, ap, _∙_}
@@ -7,13 +7,13 @@ use native.Mathlib.Omega.{arith}
 use borrow.Author.Tests.{eq-eqb, ne-eqb, eqb-true, eqb-false}
 use lib.Dec.{eqb}
 use lib.IntN.{ℤ, pos, negsuc}
-use lib.ListN.{length, getD}
+use lib.ListN.{length}
 use lib.Signed.{mag}
 use Rattle.uvarint.specs.declared.UvarintRead.{UvarintRead}
 use Rattle.uvarint.specs.declared.UvarintRead.the-variants as unsigned
 use Rattle.varint.specs.declared.VarintRead.the-variants.{Value, Short}
 use Rattle.uvarint.specs.Uvarint.{readUvarint}
-use Rattle.uvarint.specs.UvarintLaws.{Taken, taken, read-uvarint, append-read, length-at-least-1, length-at-most-10, uvarint-bytes}
+use Rattle.uvarint.specs.UvarintLaws.{Taken, taken, read-uvarint, append-read}
 use Rattle.varint.specs.Varint.{zigzag, unzigzag, varint, signed, readVarint}
 
 -- The zigzag. `mag` of n is n and of −(n + 1) is n, so an i64 is a signed number of which `mag` is below 2 ^ 63.
@@ -46,18 +46,6 @@ unzigzag-fits u h = go (eqb (u % 2) 0) refl
     go false e = rw (e, unzigzag) (omega arith)
 
 -- The varint.
-
-pub length-varint-at-least-1 : (x : ℤ) → 1 ≤ length (varint x)
-unfolding varint
-length-varint-at-least-1 x = length-at-least-1 (zigzag x)
-
-pub length-varint-at-most-10 : (x : ℤ) → mag x < 2 ^ 63 → length (varint x) ≤ 10
-unfolding varint
-length-varint-at-most-10 x h = length-at-most-10 (zigzag x) (zigzag-fits x h)
-
-pub varint-bytes : (x : ℤ) (i : ℕ) → getD (varint x) i 0 < 256
-unfolding varint
-varint-bytes x i = uvarint-bytes (zigzag x) i
 
 -- every i64, whatever follows it
 pub read-varint : (x : ℤ) (rest : List ℕ) → mag x < 2 ^ 63 → readVarint (varint x ++ rest) ≡ Value x (length (varint x))

@@ -8,11 +8,9 @@ use native.Mathlib.Omega.{arith}
 use borrow.Author.Tests.{eq-eqb, ne-eqb, eqb-true, eqb-false}
 use lib.ListN.{length, length-append}
 use lib.Dec.{eqb}
-use Rattle.wal_types.specs.declared.Refusal.the-variants.{Short}
-use Rattle.wal_types.specs.Terms.{offset}
 use Rattle.body_format.specs.Fields.{Field, got, fault, andThen, fixedAt}
 use Rattle.body_format.specs.Entries.{Kind, hasRows, Entry, Placed, entryAt, entriesFrom, firstAt, entries}
-use Rattle.body_format.specs.Laws.Fields.{fixed-got, fixed-short}
+use Rattle.body_format.specs.Laws.Fields.{fixed-got}
 use Rattle.body_format.specs.Laws.Bounds.{Every, every-then, every-both, fixed-ahead, entry-ahead}
 use Rattle.body_format.specs.Laws.Kept.{entry-kept}
 
@@ -54,10 +52,6 @@ module _ (k : Kind) (s : List ℕ) where
           ∙ then-cong (λ e q. (p + 1 ≤ q) × (q ≤ length s)) (entryAt k s p) _ _ (entry-ahead s k p)
           (λ e q l. ap (λ x. andThen x (λ es r. got (e .entry ∷ es) r)) (ih q (l .1) (omega arith) (omega arith)))
           ∙ sym (entries-suc m p (omega arith))
-
-  -- one step, with a count that is enough on both sides
-  pub entries-step : (n p : ℕ) → p < length s → length s ≤ n + p → entriesFrom n k s p ≡ entryThen n p
-  entries-step n p h e = entries-enough n (suc n) p (omega arith) e (omega arith) ∙ entries-suc n p h
 
   -- a list of entries ends at the body's end
   pub entries-last : (n p : ℕ) → p ≤ length s → length s ≤ n + p → Every (λ es r. r ≡ length s) (entriesFrom n k s p)
@@ -107,14 +101,6 @@ module _ (k : Kind) (s x : List ℕ) (d : Placed) (rows : hasRows k ≡ true →
 -- behind the first id and the first timestamp
 pub first-rows : (s : List ℕ) → 17 ≤ length s → firstAt true s ≡ got 17 17
 first-rows s h = rw (ne-eqb (length s) 1 (omega arith), fixed-got s 1 (omega arith), fixed-got s 9 (omega arith))
-
--- or one of the two is not whole
-pub first-no-id : (s : List ℕ) → 1 < length s → length s < 9 → firstAt true s ≡ fault (Short (offset 1))
-first-no-id s h l = rw (ne-eqb (length s) 1 (omega arith), fixed-short s 1 (omega arith))
-
--- the timestamp
-pub first-no-time : (s : List ℕ) → 9 ≤ length s → length s < 17 → firstAt true s ≡ fault (Short (offset 9))
-first-no-time s h l = rw (ne-eqb (length s) 1 (omega arith), fixed-got s 1 (omega arith), fixed-short s 9 (omega arith))
 
 -- in a body of one byte at its end, whatever its type
 pub first-one : (b : Bool) (s : List ℕ) → length s ≡ 1 → firstAt b s ≡ got 1 1

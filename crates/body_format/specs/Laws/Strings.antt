@@ -41,11 +41,6 @@ pub total-step : (lengths : List ℕ) (i : ℕ) → i < length lengths → total
 unfolding total
 total-step lengths i h = rw (add-one i, drop-cons lengths i 0 h)
 
--- the sum of a length and those after it
-pub total-first : (n : ℕ) (lengths : List ℕ) → total (n ∷ lengths) ≡ n + total lengths
-unfolding total
-total-first n lengths = refl
-
 -- where the slice has the first string, the bytes of its length, its own, and those of the strings after it
 pub length-cut-texts : (bytes lengths : List ℕ) (n : ℕ) → n ≤ length bytes
     → length (textsBytes (cutTexts bytes (n ∷ lengths))) ≡ length (uvarint n) + n + length (textsBytes (cutTexts (drop n bytes) lengths))
@@ -58,21 +53,6 @@ length-cut-texts bytes lengths n h =
 pub odd-list : (bytes lengths : List ℕ) → length lengths % 2 ≡ 1 → badList bytes lengths ≡ true
 unfolding badList
 odd-list bytes lengths h = rw (eq-eqb (length lengths % 2) 1 h)
-
--- lengths that do not add up
-pub unequal-list : (bytes lengths : List ℕ) → (total lengths ≡ length bytes → ⊥) → badList bytes lengths ≡ true
-unfolding badList
-unequal-list bytes lengths h = go (eqb (length lengths % 2) 1)
-  where
-    go : (t : Bool) → t || not (eqb (total lengths) (length bytes)) ≡ true
-    go true = refl
-    go false = rw (ne-eqb (total lengths) (length bytes) h)
-
--- neither
-pub good-list : (bytes lengths : List ℕ) → length lengths % 2 ≡ 0 → total lengths ≡ length bytes → badList bytes lengths ≡ false
-unfolding badList
-good-list bytes lengths h e =
-    rw (ne-eqb (length lengths % 2) 1 (omega arith), eq-eqb (total lengths) (length bytes) e)
 
 -- a list that is not bad has an even number of strings
 pub even-list : (bytes lengths : List ℕ) → badList bytes lengths ≡ false → length (cutTexts bytes lengths) % 2 ≡ 0
