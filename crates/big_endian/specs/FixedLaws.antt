@@ -1,4 +1,4 @@
--- Laws of fixed fields: length, bytes and bounds, and that reading takes back what was written.
+-- Laws of fixed fields: length and bounds, and that reading takes back what was written.
 use Prim.Native.Nat.{ℕ, _+_, _*_, _/_, _%_, _^_, _≤_, _<_}
 use mathlib.Core.Bool.{Bool, true, false}
 use mathlib.Core.List.{List, _++_}

@@ -1,5 +1,5 @@
 -- Laws that other crates cite: the register goes on from where it is; by a table too short to be used, and by `sliceTable`, the lent sum
--- is CRC-32C; a checksum has 32 bits; a slice handed on whole.
+-- is CRC-32C; a slice handed on whole.
 use mathlib.Core.Path.{_≡_, ap, _∙_}
 use mathlib.Core.List.{List, [], _++_}
 use mathlib.Core.Logic.{⊎-elim}

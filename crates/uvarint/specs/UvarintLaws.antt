@@ -1,4 +1,4 @@
--- Laws of the uvarint: its recursion, its length and bytes, and that reading takes it back.
+-- Laws of the uvarint: its recursion, its length, and that reading takes it back.
 use Prim.Native.Nat.{ℕ, zero, suc, _+_, _*_, _/_, _%_, _^_, _≤_, _<_}
 use mathlib.Core.Bool.{Bool, true, false}
 use mathlib.Core.List.{List, [], _∷_, _++_}
@@ -38,7 +38,7 @@ more-groups zero h = absurd (omega arith)
 more-groups (suc n) h =
     rw (le-ltb (suc n) 128 h, uvarint, groups, enough n (suc n / 128) (suc n / 128) (omega arith) (omega arith))
 
--- Its length and its bytes.
+-- Its length.
 
 pub length-one : (n : ℕ) → n < 128 → length (uvarint n) ≡ 1
 length-one n h = ap length (one-group n h)

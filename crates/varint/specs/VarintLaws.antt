@@ -1,4 +1,4 @@
--- Laws of the zigzag and the varint: each way takes the other back, lengths and bounds, and that reading takes a varint back.
+-- Laws of the zigzag and the varint: each way takes the other back, bounds, and that reading takes a varint back.
 use Prim.Native.Nat.{ℕ, _+_, _*_, _%_, _^_, _<_}
 use mathlib.Core.Bool.{Bool, true, false}
 use mathlib.Core.List.{List, _++_}
