@@ -20,8 +20,8 @@ use Rattle.body.specs.declared.strings.TextListRead.{TextListRead}
 use Rattle.body.specs.declared.strings.TextListRead.the-variants as list
 use Rattle.body.specs.declared.fields.Place.{Place}
 use Rattle.body.specs.declared.fields.Place.the-variants.{At, Fault}
-use Rattle.body.specs.declared.entries.RowRead.{RowRead}
-use Rattle.body.specs.declared.entries.RowRead.the-variants as row
+use Rattle.body.specs.declared.rows.RowRead.{RowRead}
+use Rattle.body.specs.declared.rows.RowRead.the-variants as row
 use Rattle.body.specs.Answers.{numberRead, signedRead, textRead, textListRead, rowRead, placeRead}
 
 -- two answers of different cases are not one

@@ -1,5 +1,7 @@
 pub mod Forms
 pub mod Types
-pub mod Rows
+pub mod Parts
 pub mod Reading
 pub mod Ending
+pub mod EntryPlace
+pub mod ShortRow

@@ -1,4 +1,4 @@
--- Strings in a row, the places of entries, and the list of entries, one step at a time.
+-- Strings in a row, where the entries begin, and the list of entries, one step at a time.
 use mathlib.Core.Path.{_≡_, refl, sym, ap, _∙_}
 use mathlib.Core.Bool.{Bool, true, false, cond}
 use mathlib.Core.List.{List, _∷_}
@@ -19,11 +19,9 @@ use Rattle.varint.specs.Varint.{readVarint}
 use Rattle.varint.specs.VarintLaws.{taken-varint}
 use Rattle.body_format.specs.declared.CheckAnswer.{CheckAnswer}
 use Rattle.body_format.specs.declared.CheckAnswer.the-variants.{Entries, Refused as CheckRefused}
-use Rattle.body_format.specs.declared.EntryAnswer.{EntryAnswer}
-use Rattle.body_format.specs.declared.EntryAnswer.the-variants.{Refused}
 use Rattle.body_format.specs.Fields.{Field, got, fault, andThen, Text, uvarintAt, varintOf, varintAt, textAt, textsAt, textListAt, fixedAt}
 use Rattle.body_format.specs.Entries.{Kind, Entry, Placed, hasRows, entryAt, entriesFrom, firstAt, entries, known}
-use Rattle.body_format.specs.Reading.{checkFields, checkKnown, checkBody, entryOrEnd, firstEntry, answerString}
+use Rattle.body_format.specs.Reading.{checkFields, checkKnown, checkBody, answerString}
 use Rattle.body_format.specs.Laws.Fields.{uvarint-got, text-got}
 use Rattle.body_format.specs.Laws.Bounds.{Every, every-then, of-got, uvarint-ahead, fixed-ahead, texts-ahead, entry-ahead}
 use Rattle.body_format.specs.declared.StringAnswer.the-variants.{Found as StringFound, Refused as StringRefused}
@@ -33,7 +31,7 @@ use Rattle.body.specs.declared.strings.TextListRead.{TextListRead}
 use Rattle.body.specs.declared.strings.TextListRead.the-variants as list
 use Rattle.body.specs.declared.fields.Place.{Place}
 use Rattle.body.specs.declared.fields.Place.the-variants.{At, Fault}
-use Rattle.body.specs.Answers.{textRead, tally, textListRead, placeRead, endOf, entryPlace}
+use Rattle.body.specs.Answers.{textRead, tally, textListRead, placeRead, endOf}
 
 -- ---- numbers
 
@@ -260,25 +258,3 @@ begins s h true = go (eqb (length s) 1)
 
 pub first-inside : (t : Bool) (s : List ℕ) {p : ℕ} → 0 < length s → (q : ℕ) × (firstAt t s ≡ got p q) → (0 < p) × (p ≤ length s)
 first-inside t s {p} h (q, e) = of-got _ (firstAt t s) p q (begins s h t) e
-
--- ---- the entry for a place
-
-module _ (k : Kind) (s : List ℕ) (p : ℕ) where
-  pub place-found : {q : ℕ} → At q ≡ entryPlace k s p → cond (eqb p 1) (firstEntry k s (firstAt (hasRows k) s)) (entryOrEnd k s p) ≡ entryOrEnd k s q
-  place-found {q} e = go (eqb p 1) refl (firstAt (hasRows k) s) refl
-    where
-      go : (t : Bool) → eqb p 1 ≡ t → (f : Field ℕ) → firstAt (hasRows k) s ≡ f
-          → cond (eqb p 1) (firstEntry k s (firstAt (hasRows k) s)) (entryOrEnd k s p) ≡ entryOrEnd k s q
-      go true h (got n x) i = let z : At q ≡ At n = rw (h, i) at e in let y : q ≡ n = cc in rw (h, i, y)
-      go true h (fault why) i = let z : At q ≡ Fault why = rw (h, i) at e in absurd (let y : _≡_ {A = ℕ} 0 1 = cc in omega arith)
-      go false h f i = let z : At q ≡ At p = rw h at e in let y : q ≡ p = cc in rw (h, y)
-
-  pub place-refused : {why : Refusal} → Fault why ≡ entryPlace k s p
-      → cond (eqb p 1) (firstEntry k s (firstAt (hasRows k) s)) (entryOrEnd k s p) ≡ Refused why
-  place-refused {why} e = go (eqb p 1) refl (firstAt (hasRows k) s) refl
-    where
-      go : (t : Bool) → eqb p 1 ≡ t → (f : Field ℕ) → firstAt (hasRows k) s ≡ f
-          → cond (eqb p 1) (firstEntry k s (firstAt (hasRows k) s)) (entryOrEnd k s p) ≡ Refused why
-      go true h (got n x) i = let z : Fault why ≡ At n = rw (h, i) at e in absurd (let y : _≡_ {A = ℕ} 0 1 = cc in omega arith)
-      go true h (fault w) i = let z : Fault why ≡ Fault w = rw (h, i) at e in let y : why ≡ w = cc in rw (h, i, y)
-      go false h f i = let z : Fault why ≡ At p = rw h at e in absurd (let y : _≡_ {A = ℕ} 0 1 = cc in omega arith)

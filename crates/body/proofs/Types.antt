@@ -13,9 +13,11 @@ use Rattle.body_format.specs.declared.StringAnswer.the-variants.{Refused as Str
 use Rattle.body_format.specs.Entries.{Kind, series, samples, tombstones, exemplars, metadata, Known, known, unknown, kindOf, hasRows}
 use Rattle.body_format.specs.Reading.{checkKnown, checkBody, entryKnown, readEntry, stringKnown, readString}
 use Rattle.body.specs.declared.kinds.BodyKind.{BodyKind}
+use Rattle.body.specs.declared.kinds.PlainKind.{PlainKind}
+use Rattle.body.specs.declared.kinds.PlainKind.the-variants.{Series, Tombstones, Metadata}
 use Rattle.body.specs.declared.kinds.TypeRead.{TypeRead}
 use Rattle.body.specs.declared.kinds.TypeRead.the-variants as type
-use Rattle.body.specs.Answers.{rowsKind, kindIn, typeFound, typeRead}
+use Rattle.body.specs.Answers.{rowsKind, plainIn, kindIn, typeFound, typeRead}
 
 -- an answer by the type that was found
 abbrev pub byType : {A : Type 0} → (Refusal → A) → (Kind → A) → TypeRead → A
@@ -68,6 +70,11 @@ known-some [] r e g = let z : _≡_ {A = ℕ} 0 1 = cc in absurd (omega arith)
 known-some (b ∷ s) r e g = omega arith
 
 -- with labels and without, rows are rows
-pub rows-rows : (labelled : Bool) → true ≡ hasRows (rowsKind labelled)
+pub rows-rows : (labelled : Bool) → hasRows (rowsKind labelled) ≡ true
 rows-rows false = refl
 rows-rows true = refl
+
+pub plain-plain : (k : PlainKind) → hasRows (plainIn k) ≡ false
+plain-plain Series = refl
+plain-plain Tombstones = refl
+plain-plain Metadata = refl

@@ -1,19 +1,22 @@
 -- The definitions' readings in the forms that the code hands from one function to the next: where a string's bytes do not matter, they are left out.
 -- Assumes nothing.
-use mathlib.Core.Bool.{Bool, true, false, cond}
+use mathlib.Core.Bool.{Bool, true, false, cond, _&&_}
 use mathlib.Core.List.{List, [], _∷_}
-use Prim.Native.Nat.{ℕ, _+_}
+use Prim.Native.Nat.{ℕ, _+_, _-_}
 use lib.IntN.{ℤ}
-use lib.Dec.{eqb}
-use lib.ListN.{length, drop}
+use lib.Dec.{eqb, leb, ltb}
+use lib.ListN.{length, getD, drop}
 use Rattle.wal_types.specs.declared.Refusal.the-variants.{UnknownType, EmptyBody}
 use Rattle.wal_types.specs.declared.SeriesId.{SeriesId}
 use Rattle.wal_types.specs.Terms.{seriesId, timestamp}
+use Rattle.wal_types.specs.Deltas.{plus, fromBits}
 use Rattle.big_endian.specs.Fixed.{readBe8}
 use Rattle.body_format.specs.Fields.{Field, got, fault, Text, Texts, textListAt}
-use Rattle.body_format.specs.Entries.{Kind, series, samples, tombstones, exemplars, metadata, Known, known, unknown, kindOf, Row, hasRows, firstAt}
+use Rattle.body_format.specs.Entries.{Kind, series, samples, tombstones, exemplars, metadata, Known, known, unknown, kindOf, Row}
 use Rattle.body.specs.declared.kinds.BodyKind.{BodyKind}
-use Rattle.body.specs.declared.kinds.BodyKind.the-variants.{Series, Rows, Tombstones, Metadata}
+use Rattle.body.specs.declared.kinds.BodyKind.the-variants.{Rows, Plain}
+use Rattle.body.specs.declared.kinds.PlainKind.{PlainKind}
+use Rattle.body.specs.declared.kinds.PlainKind.the-variants.{Series, Tombstones, Metadata}
 use Rattle.body.specs.declared.kinds.TypeRead.{TypeRead}
 use Rattle.body.specs.declared.kinds.TypeRead.the-variants as type
 use Rattle.body.specs.declared.fields.NumberRead.{NumberRead}
@@ -26,9 +29,9 @@ use Rattle.body.specs.declared.strings.TextListRead.{TextListRead}
 use Rattle.body.specs.declared.strings.TextListRead.the-variants as list
 use Rattle.body.specs.declared.fields.Place.{Place}
 use Rattle.body.specs.declared.fields.Place.the-variants.{At, Fault}
-use Rattle.body.specs.declared.entries.Base.{Base}
-use Rattle.body.specs.declared.entries.RowRead.{RowRead}
-use Rattle.body.specs.declared.entries.RowRead.the-variants as row
+use Rattle.body.specs.declared.rows.Base.{Base}
+use Rattle.body.specs.declared.rows.RowRead.{RowRead}
+use Rattle.body.specs.declared.rows.RowRead.the-variants as row
 
 -- ---- types
 
@@ -37,18 +40,21 @@ abbrev pub rowsKind : Bool → Kind
 rowsKind false = samples
 rowsKind true = exemplars
 
+abbrev pub plainIn : PlainKind → Kind
+plainIn Series = series
+plainIn Tombstones = tombstones
+plainIn Metadata = metadata
+
 abbrev pub kindIn : BodyKind → Kind
-kindIn Series = series
 kindIn (Rows labelled) = rowsKind labelled
-kindIn Tombstones = tombstones
-kindIn Metadata = metadata
+kindIn (Plain k) = plainIn k
 
 abbrev pub bodyKind : Kind → BodyKind
-bodyKind series = Series
+bodyKind series = Plain Series
 bodyKind samples = Rows false
-bodyKind tombstones = Tombstones
+bodyKind tombstones = Plain Tombstones
 bodyKind exemplars = Rows true
-bodyKind metadata = Metadata
+bodyKind metadata = Plain Metadata
 
 abbrev pub typeFound : Known → TypeRead
 typeFound (known k) = type.Known (bodyKind k)
@@ -107,6 +113,14 @@ abbrev pub rowRead : Field Row → RowRead
 rowRead (got r next) = row.Got (seriesId (r .id)) (timestamp (r .time)) (r .bits) next
 rowRead (fault why) = row.Fault why
 
+-- a row whose deltas are d and e
+abbrev pub rowGot : SeriesId → ℕ → ℕ → ℕ → ℕ → ℕ → RowRead
+rowGot id time d e bits next = row.Got (seriesId (plus (id .0) d)) (timestamp (fromBits (plus time e))) bits next
+
+-- ten bytes, of which the first two are a delta each
+unfoldable pub isShortRow : List ℕ → ℕ → Bool
+isShortRow s p = leb 10 (length s - p) && (ltb (getD s p 0) 128 && ltb (getD s (p + 1) 0) 128)
+
 -- the labels behind a row; samples have none
 abbrev pub labelsRead : Bool → List ℕ → ℕ → TextListRead
 labelsRead false s p = list.Got 0 p p
@@ -117,6 +131,6 @@ abbrev pub placeRead : Field ℕ → Place
 placeRead (got p next) = At p
 placeRead (fault why) = Fault why
 
--- where the entry for place p is: place 1 is the first entry's
-abbrev pub entryPlace : Kind → List ℕ → ℕ → Place
-entryPlace k s p = cond (eqb p 1) (placeRead (firstAt (hasRows k) s)) (At p)
+-- where the row for place p is: place 1 is the first row's
+abbrev pub rowPlace : ℕ → ℕ
+rowPlace p = cond (eqb p 1) 17 p

@@ -7,13 +7,16 @@ use crate::fields::fixed_at;
 use crate::fields::uvarint_at;
 use crate::fields::varint_at;
 use crate::kinds::BodyKind;
+use crate::kinds::PlainKind;
+use crate::rows::SHORT_ROW;
+use crate::rows::is_short_row;
 use crate::strings::TextListRead;
 use crate::strings::text_list_at;
 ghost use mathlib.Core.Path.{_≡_};
 ghost use Prim.Native.Nat.{ℕ};
 ghost use Rattle.body_format.specs.Fields.{byteAt, fixedAt, uvarintAt, varintAt, textListAt};
 ghost use Rattle.body_format.specs.Entries.{rowAt, seriesAt, tombstoneAt, metadataAt, entryAt};
-ghost use Rattle.body.specs.Answers.{kindIn, rowsKind, endOf, onward};
+ghost use Rattle.body.specs.Answers.{kindIn, plainIn, rowsKind, endOf, onward};
 
 // ---- a field behind a place, or the fault that was met before it
 
@@ -83,13 +86,24 @@ fn list_end(body: &[u8], from: Place) -> Place
 
 // ---- an entry at a place
 
-// What types 2 and 4 share.
-fn row_end(body: &[u8], at: usize) -> Place
+// Two deltas and a value.
+fn long_row_end(body: &[u8], at: usize) -> Place
     ensures { λ r. ⌜ r ≡ endOf (rowAt (now (body .entry)) at) ⌝ }
 {
     let second = uvarint_end(body, Place::At(at));
     let third = uvarint_end(body, second);
     fixed_end(body, third)
+}
+
+// What types 2 and 4 share.
+fn row_end(body: &[u8], at: usize) -> Place
+    ensures { λ r. ⌜ r ≡ endOf (rowAt (now (body .entry)) at) ⌝ }
+{
+    if is_short_row(body, at) {
+        let next = at + SHORT_ROW;
+        return Place::At(next);
+    }
+    long_row_end(body, at)
 }
 
 // Types 2 and 4: a row, and its labels.
@@ -127,14 +141,22 @@ fn metadata_end(body: &[u8], at: usize) -> Place
     list_end(body, third)
 }
 
+fn plain_end(body: &[u8], kind: PlainKind, at: usize) -> Place
+    ensures { λ r. ⌜ r ≡ endOf (entryAt (plainIn kind) (now (body .entry)) at) ⌝ }
+{
+    match kind {
+        PlainKind::Series => series_end(body, at),
+        PlainKind::Tombstones => tombstone_end(body, at),
+        PlainKind::Metadata => metadata_end(body, at),
+    }
+}
+
 // The place after the entry at a place.
 pub(crate) fn entry_end(body: &[u8], kind: BodyKind, at: usize) -> Place
     ensures { λ r. ⌜ r ≡ endOf (entryAt (kindIn kind) (now (body .entry)) at) ⌝ }
 {
     match kind {
-        BodyKind::Series => series_end(body, at),
         BodyKind::Rows { labelled } => row_entry_end(body, labelled, at),
-        BodyKind::Tombstones => tombstone_end(body, at),
-        BodyKind::Metadata => metadata_end(body, at),
+        BodyKind::Plain(plain) => plain_end(body, plain, at),
     }
 }

@@ -1,13 +1,19 @@
-// The five types of a body. Samples and exemplars are one case, rows, so that the code that reads a row has one caller and becomes one piece with it.
+// The five types of a body: rows, behind a first id and a first timestamp, and entries that stand alone. Samples and exemplars are one case, rows, so
+// that the code that reads a row has one caller and becomes one piece with it.
 use wal_types::Refusal;
 ghost use mathlib.Core.Path.{_≡_};
-ghost use Rattle.body_format.specs.Entries.{kindOf, hasRows};
-ghost use Rattle.body.specs.Answers.{kindIn, typeFound, typeRead};
+ghost use Rattle.body_format.specs.Entries.{kindOf};
+ghost use Rattle.body.specs.Answers.{typeFound, typeRead};
 
 pub(crate) enum BodyKind {
-    Series,
     // Samples, and with labels exemplars.
     Rows { labelled: bool },
+    Plain(PlainKind),
+}
+
+// The types without rows.
+pub(crate) enum PlainKind {
+    Series,
     Tombstones,
     Metadata,
 }
@@ -23,11 +29,11 @@ pub(crate) fn type_of(byte: u8) -> TypeRead
     ensures { λ r. ⌜ r ≡ typeFound (kindOf byte) ⌝ }
 {
     match byte {
-        1 => TypeRead::Known(BodyKind::Series),
+        1 => TypeRead::Known(BodyKind::Plain(PlainKind::Series)),
         2 => TypeRead::Known(BodyKind::Rows { labelled: false }),
-        3 => TypeRead::Known(BodyKind::Tombstones),
+        3 => TypeRead::Known(BodyKind::Plain(PlainKind::Tombstones)),
         4 => TypeRead::Known(BodyKind::Rows { labelled: true }),
-        6 => TypeRead::Known(BodyKind::Metadata),
+        6 => TypeRead::Known(BodyKind::Plain(PlainKind::Metadata)),
         _ => TypeRead::Refused(Refusal::UnknownType),
     }
 }
@@ -40,16 +46,4 @@ pub(crate) fn body_type(body: &[u8]) -> TypeRead
         return TypeRead::Refused(Refusal::EmptyBody);
     }
     type_of(body[0])
-}
-
-// Whether the entries are rows, behind a first id and a first timestamp.
-pub(crate) fn has_rows(kind: BodyKind) -> bool
-    ensures { λ r. ⌜ r ≡ hasRows (kindIn kind) ⌝ }
-{
-    match kind {
-        BodyKind::Series => false,
-        BodyKind::Rows { labelled: _ } => true,
-        BodyKind::Tombstones => false,
-        BodyKind::Metadata => false,
-    }
 }

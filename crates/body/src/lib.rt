@@ -5,20 +5,20 @@ mod entries;
 mod fields;
 mod kinds;
 mod places;
+mod rows;
 mod strings;
 
 use body_format::CheckAnswer;
 use body_format::EntryAnswer;
 use body_format::StringAnswer;
-use entries::base_of;
-use entries::entry_or_end;
+use entries::plain_entry;
 use fields::Place;
+use kinds::BodyKind;
 use kinds::TypeRead;
 use kinds::body_type;
 use places::count_entries;
 use places::entries_begin;
-use places::entry_place;
-use places::is_misplaced;
+use rows::row_entry;
 use strings::TextRead;
 use strings::text_at;
 use wal_types::Offset;
@@ -45,18 +45,10 @@ pub fn entry_at(body: &[u8], place: Offset) -> EntryAnswer
 {
     let at = place.0;
     match body_type(body) {
-        TypeRead::Known(kind) => {
-            if is_misplaced(body, kind, at) {
-                return EntryAnswer::Refused(Refusal::BadPlace);
-            }
-            match entry_place(body, kind, at) {
-                Place::At(from) => {
-                    let base = base_of(body);
-                    entry_or_end(body, kind, base.id, base.time, from)
-                }
-                Place::Fault(why) => EntryAnswer::Refused(why),
-            }
-        }
+        TypeRead::Known(kind) => match kind {
+            BodyKind::Rows { labelled } => row_entry(body, labelled, at),
+            BodyKind::Plain(plain) => plain_entry(body, plain, at),
+        },
         TypeRead::Refused(why) => EntryAnswer::Refused(why),
     }
 }

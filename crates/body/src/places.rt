@@ -1,44 +1,22 @@
-// Places of entries: which are good, where the entries begin, and how many there are.
+// Where the entries of a body begin, and how many there are.
 use crate::ends::entry_end;
 use crate::fields::NumberRead;
 use crate::fields::Place;
 use crate::fields::fixed_at;
 use crate::kinds::BodyKind;
-use crate::kinds::has_rows;
 use body_format::CheckAnswer;
 ghost use mathlib.Core.Path.{_≡_};
+ghost use mathlib.Core.Bool.{true};
 ghost use Prim.Native.Nat.{_≤_, _<_};
 ghost use lib.ListN.{length};
 ghost use Rattle.body_format.specs.Entries.{hasRows, firstAt, entriesFrom};
-ghost use Rattle.body_format.specs.Reading.{checkFields, badPlace};
-ghost use Rattle.body.specs.Answers.{kindIn, placeRead, entryPlace};
+ghost use Rattle.body_format.specs.Reading.{checkFields};
+ghost use Rattle.body.specs.Answers.{kindIn, placeRead};
 
-// Place 0, past the bytes, or 2 to 16 where there are rows.
-pub(crate) fn is_misplaced(body: &[u8], kind: BodyKind, at: usize) -> bool
-    ensures { λ r. ⌜ r ≡ badPlace (kindIn kind) (now (body .entry)) at ⌝ }
+// Rows begin behind the first id and the first timestamp, unless there is nothing behind the type byte.
+pub(crate) fn rows_begin(body: &[u8]) -> Place
+    ensures { λ r. ⌜ r ≡ placeRead (firstAt true (now (body .entry))) ⌝ }
 {
-    if at == 0 {
-        return true;
-    }
-    if body.len() < at {
-        return true;
-    }
-    if !has_rows(kind) {
-        return false;
-    }
-    if at < 2 {
-        return false;
-    }
-    at <= 16
-}
-
-// Where the entries begin: behind the first id and the first timestamp where there are rows.
-pub(crate) fn entries_begin(body: &[u8], kind: BodyKind) -> Place
-    ensures { λ r. ⌜ r ≡ placeRead (firstAt (hasRows (kindIn kind)) (now (body .entry))) ⌝ }
-{
-    if !has_rows(kind) {
-        return Place::At(1);
-    }
     if body.len() == 1 {
         return Place::At(1);
     }
@@ -51,14 +29,14 @@ pub(crate) fn entries_begin(body: &[u8], kind: BodyKind) -> Place
     }
 }
 
-// Where the entry for a place is: place 1 is the first entry's.
-pub(crate) fn entry_place(body: &[u8], kind: BodyKind, at: usize) -> Place
-    ensures { λ r. ⌜ r ≡ entryPlace (kindIn kind) (now (body .entry)) at ⌝ }
+// Where the entries of a type begin.
+pub(crate) fn entries_begin(body: &[u8], kind: BodyKind) -> Place
+    ensures { λ r. ⌜ r ≡ placeRead (firstAt (hasRows (kindIn kind)) (now (body .entry))) ⌝ }
 {
-    if at == 1 {
-        return entries_begin(body, kind);
+    match kind {
+        BodyKind::Rows { labelled: _ } => rows_begin(body),
+        BodyKind::Plain(_) => Place::At(1),
     }
-    Place::At(at)
 }
 
 // How many entries there are from a place to the end of the body.

@@ -1,25 +1,26 @@
 -- How many bytes rows and lists of strings take, and the loops over the lengths.
-use mathlib.Core.Path.{_≡_, refl, sym, ap, _∙_}
+use mathlib.Core.Path.{_≡_, refl, sym, ap, ap₂, _∙_}
 use mathlib.Core.Bool.{Bool, true, false, cond, _||_, not}
 use mathlib.Core.List.{List, [], _∷_, _++_}
-use Prim.Native.Nat.{ℕ, _+_, _-_, _/_, _%_, _≤_, _<_}
+use Prim.Native.Nat.{ℕ, suc, _+_, _-_, _/_, _%_, _≤_, _<_}
 use native.Mathlib.Omega.{arith}
 use native.Mathlib.Numerals.{add-one}
 use borrow.Author.Tests.{ltb-true, eq-eqb, ne-eqb, eqb-true, eqb-false}
 use lib.Dec.{ltb, eqb}
-use lib.ListN.{length, getD, drop, drop-of-length-le, length-drop}
-use lib.Seq.{drop-cons}
+use lib.ListN.{length, getD, drop, set, drop-of-length-le, length-drop, length-set}
+use lib.Seq.{drop-cons, sets}
 use Rattle.wal_types.specs.Deltas.{minus}
 use Rattle.copying.specs.Put.{putAt, putEnd}
 use Rattle.uvarint.specs.Uvarint.{uvarint}
-use Rattle.uvarint.specs.UvarintLaws.{length-at-least-1}
+use Rattle.uvarint.specs.UvarintLaws.{one-group, length-at-least-1}
 use Rattle.big_endian.specs.Fixed.{be8, readBe8}
+use Rattle.big_endian.specs.FixedLaws.{length-be8}
 use Rattle.body_format.specs.Building.{textsBytes, textListBytes, cutTexts, total, badList, rowBytes}
 use Rattle.body_format.specs.Laws.Fields.{length-list}
 use Rattle.body_format.specs.Laws.Strings.{length-cut, length-cut-texts, row-first, row-later, length-row-first, length-row-later}
 use Rattle.body_builder.specs.declared.builder.Deltas.{Deltas}
 use Rattle.body_builder.specs.Sizes.{rowSize, rowTail, deltasIn, heads, listSize}
-use Rattle.body_builder.proofs.Putting.{Put, put-first, room-then, put-then}
+use Rattle.body_builder.proofs.Putting.{Put, put-last, put-first, room-then, put-then}
 
 -- a size is exact, or above the limit as the size it stands for is
 pub data Sized (n m : ℕ) : Type 0 where
@@ -29,6 +30,31 @@ pub data Sized (n m : ℕ) : Type 0 where
 pub more : (k : ℕ) {n m : ℕ} → Sized n m → Sized (k + n) (k + m)
 more k (exact e) = exact (ap (λ (x : ℕ). k + x) e)
 more k (above a b) = above (omega arith) (omega arith)
+
+-- ---- deltas of one byte each
+
+module _ (d e v : ℕ) (h : d < 128) (k : e < 128) where
+  tail-short : rowTail d e v ≡ d ∷ e ∷ be8 v
+  unfolding rowTail
+  tail-short = rw (one-group d h, one-group e k)
+
+  length-short : length (rowTail d e v) ≡ 10
+  length-short = ap length tail-short ∙ omega (arith, length-be8 v)
+
+  pub short-room : (b : List ℕ) (at : ℕ) → at + length (rowTail d e v) ≤ length b → at + 10 ≤ length b
+  short-room b at r = omega (arith, length-short)
+
+  -- two stores and a put
+  pub short-put : (b b′ : List ℕ) (at r : ℕ) → at + length (rowTail d e v) ≤ length b
+      → r ≡ putEnd (set (set b at d) (at + 1) e) (at + 2) (be8 v) → b′ ≡ putAt (set (set b at d) (at + 1) e) (at + 2) (be8 v)
+      → Put b at (rowTail d e v) b′ r
+  short-put b b′ at r room f g =
+      let stored = set (set b at d) (at + 1) e in
+      let same : length stored ≡ length b = length-set (set b at d) (at + 1) e ∙ length-set b at d in
+      let last : Put stored (at + 2) (be8 v) b′ r = put-last stored b′ (at + 2) r (be8 v) (omega (arith, same, short-room b at room, length-be8 v)) f g in (
+        omega (arith, last .0, length-short, length-be8 v),
+        last .1 ∙ ap₂ (λ (x y : ℕ). sets (set (set b at d) x e) y (be8 v)) {x = at + 1} {y = suc at} {u = at + 2} {v = suc (suc at)} (omega arith) (omega arith) ∙ ap (sets b at) (sym tail-short),
+      )
 
 -- ---- lengths
 

@@ -8,7 +8,7 @@ use wal_types::id_delta;
 use wal_types::time_bits;
 ghost use mathlib.Core.Path.{_≡_};
 ghost use mathlib.Core.Bool.{_||_};
-ghost use Prim.Native.Nat.{_+_, _≤_};
+ghost use Prim.Native.Nat.{_+_, _≤_, _<_};
 ghost use lib.Dec.{eqb};
 ghost use lib.ListN.{length};
 ghost use lib.Seq.{sets};
@@ -128,8 +128,21 @@ pub(crate) fn row_size(used: usize, row: Deltas) -> usize
     both + 8
 }
 
-// Two deltas and the value.
-fn put_deltas(buffer: &mut [u8], at: usize, id: u64, time: u64, bits: u64) -> usize
+// Two deltas of one byte each, and the value. Nearly every row is such, and what its puts would ask is known.
+fn put_short_deltas(buffer: &mut [u8], at: usize, id: u64, time: u64, bits: u64) -> usize
+    requires { ⌜ (id < 128) × (time < 128) × (at + length (rowTail id time bits) ≤ length (now buffer)) ⌝ }
+    ensures { λ r. ⌜ r ≡ at + length (rowTail id time bits) ⌝ }
+    ensures { λ _. ⌜ now (buffer .exit) ≡ sets (now (buffer .entry)) at (rowTail id time bits) ⌝ }
+{
+    let second = at + 1;
+    let third = at + 2;
+    buffer[at] = id as u8;
+    buffer[second] = time as u8;
+    big_endian::put_be8(buffer, third, bits)
+}
+
+// Two deltas of any length, and the value.
+fn put_long_deltas(buffer: &mut [u8], at: usize, id: u64, time: u64, bits: u64) -> usize
     requires { ⌜ at + length (rowTail id time bits) ≤ length (now buffer) ⌝ }
     ensures { λ r. ⌜ r ≡ at + length (rowTail id time bits) ⌝ }
     ensures { λ _. ⌜ now (buffer .exit) ≡ sets (now (buffer .entry)) at (rowTail id time bits) ⌝ }
@@ -137,6 +150,20 @@ fn put_deltas(buffer: &mut [u8], at: usize, id: u64, time: u64, bits: u64) -> us
     let second = uvarint::put_uvarint(buffer, at, id);
     let third = uvarint::put_uvarint(buffer, second, time);
     big_endian::put_be8(buffer, third, bits)
+}
+
+// Two deltas and the value.
+fn put_deltas(buffer: &mut [u8], at: usize, id: u64, time: u64, bits: u64) -> usize
+    requires { ⌜ at + length (rowTail id time bits) ≤ length (now buffer) ⌝ }
+    ensures { λ r. ⌜ r ≡ at + length (rowTail id time bits) ⌝ }
+    ensures { λ _. ⌜ now (buffer .exit) ≡ sets (now (buffer .entry)) at (rowTail id time bits) ⌝ }
+{
+    if id < 128 {
+        if time < 128 {
+            return put_short_deltas(buffer, at, id, time, bits);
+        }
+    }
+    put_long_deltas(buffer, at, id, time, bits)
 }
 
 // What types 2 and 4 share: a row.

@@ -1,19 +1,13 @@
--- `entry_end` meets its contract: the end of an entry of the type.
+-- `entry_end` meets its contract: by rows or without.
 use borrow.Author.Needs.{needs}
 use Rattle.body.proofs.ends.entry_end.Statement.{statement}
 use Rattle.body.proofs.ends.entry_end.Tie as tie
 
 returns : tie.Need-returns
-returns c = rw (c .before .enum-told .given .1) (c .series-end .ensures)
+returns c = rw (c .before .before .kind .given .1) (c .row-entry-end .ensures)
 
 returns-2 : tie.Need-returns-2
-returns-2 c = rw (c .before .before .kind .given .1) (c .row-entry-end .ensures)
-
-returns-3 : tie.Need-returns-3
-returns-3 c = rw (c .before .enum-told2 .given .1) (c .tombstone-end .ensures)
-
-returns-4 : tie.Need-returns-4
-returns-4 c = rw (c .before .enum-told3 .given .1) (c .metadata-end .ensures)
+returns-2 c = rw (c .before .before .kind2 .given .1) (c .plain-end .ensures)
 
 pub entry-end-spec : {M : Type 1} → statement M
 entry-end-spec =
@@ -23,11 +17,5 @@ entry-end-spec =
     (λ c κs. search needs)
     (λ c. search needs)
     (λ c κs. search needs)
-    (λ c. search needs)
-    (λ c κs. search needs)
-    (λ c. search needs)
-    (λ c κs. search needs)
     returns
-    returns-2
-    returns-3
-    returns-4)
+    returns-2)

@@ -1,46 +1,14 @@
--- `entries_begin` meets its contract: place 1, or behind two fields of eight bytes.
+-- `entries_begin` meets its contract: by rows or without.
 use borrow.Author.Needs.{needs}
-use mathlib.Core.Path.{sym, _∙_}
-use borrow.Author.Tests.{eq-eqb, not-true, not-false}
-use Rattle.body.proofs.Forms.{number-got, number-fault}
-use Rattle.body.proofs.Reading.{first-1, first-2, first-all}
+use Rattle.body.proofs.Types.{rows-rows, plain-plain}
 use Rattle.body.proofs.places.entries_begin.Statement.{statement}
 use Rattle.body.proofs.places.entries_begin.Tie as tie
 
 returns : tie.Need-returns
-returns c = rw (sym (c .before .has-rows .ensures) ∙ not-true _ (c .if1 .taken))
+returns c = rw (c .before .enum-told .given .1, rows-rows (c .before .enum-told .given .0 .0)) (c .rows-begin .ensures)
 
 returns-2 : tie.Need-returns-2
-returns-2 c = rw (sym (c .before .before .has-rows .ensures) ∙ not-false _ (c .before .if1 .left), eq-eqb _ _ (c .if2 .taken))
-
-returns-3 : tie.Need-returns-3
-returns-3 c =
-    rw (sym (c .before .before .before .before .before .before .before .before .before .before .has-rows .ensures) ∙ not-false _ (c .before .before .before .before .before .before .before .before .before .if1 .left))
-    (first-all _ (c .before .before .before .before .before .before .before .before .if2 .left) (number-got _ _ (c .before .before .before .before .before .before .before .fixed-at .ensures) (c .before .before .before .before .before .next .given .1)) (number-got _ _ (c .before .before .before .fixed-at2 .ensures) (c .before .next2 .given .1)))
-
-returns-4 : tie.Need-returns-4
-returns-4 c =
-    rw (sym (c .before .before .before .before .before .before .before .before .before .before .has-rows .ensures) ∙ not-false _ (c .before .before .before .before .before .before .before .before .before .if1 .left))
-    (first-2 _ (c .before .before .before .before .before .before .before .before .if2 .left) (number-got _ _ (c .before .before .before .before .before .before .before .fixed-at .ensures) (c .before .before .before .before .before .next .given .1)) (number-fault _ _ (c .before .before .before .fixed-at2 .ensures) (c .before .why .given .1)))
-
-returns-5 : tie.Need-returns-5
-returns-5 c =
-    rw (sym (c .before .before .before .before .before .before .has-rows .ensures) ∙ not-false _ (c .before .before .before .before .before .if1 .left))
-    (first-1 _ (c .before .before .before .before .if2 .left) (number-fault _ _ (c .before .before .before .fixed-at .ensures) (c .before .why2 .given .1)))
+returns-2 c = rw (c .enum-told2 .given .1, plain-plain (c .enum-told2 .given .0 .0))
 
 pub entries-begin-spec : {M : Type 1} → statement M
-entries-begin-spec =
-    tie.close
-    (tie.spec
-    (λ c κs. search needs)
-    returns
-    returns-2
-    (λ c κs. search needs)
-    (λ c. search needs)
-    (λ c κs. search needs)
-    (λ c. search needs)
-    (λ c. search needs)
-    (λ c. search needs)
-    returns-3
-    returns-4
-    returns-5)
+entries-begin-spec = tie.close (tie.spec (λ c. search needs) (λ c κs. search needs) (λ c. search needs) returns returns-2)

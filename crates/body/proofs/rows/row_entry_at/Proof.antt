@@ -1,9 +1,9 @@
 -- `row_entry_at` meets its contract: a row and its labels.
 use borrow.Author.Needs.{needs}
 use Rattle.body.proofs.Forms.{row-got, row-fault}
-use Rattle.body.proofs.Rows.{row-entry-1, row-entry-2, row-entry-all}
-use Rattle.body.proofs.entries.row_entry_at.Statement.{statement}
-use Rattle.body.proofs.entries.row_entry_at.Tie as tie
+use Rattle.body.proofs.Parts.{row-entry-1, row-entry-2, row-entry-all}
+use Rattle.body.proofs.rows.row_entry_at.Statement.{statement}
+use Rattle.body.proofs.rows.row_entry_at.Tie as tie
 
 returns : tie.Need-returns
 returns c =

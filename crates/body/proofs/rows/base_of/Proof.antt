@@ -3,9 +3,9 @@ use borrow.Author.Needs.{needs}
 use Prim.Native.Nat.{ℕ}
 use mathlib.Core.Path.{ap₂}
 use Rattle.wal_types.specs.Terms.{seriesId}
-use Rattle.body.specs.declared.entries.Base.{Base}
-use Rattle.body.proofs.entries.base_of.Statement.{statement}
-use Rattle.body.proofs.entries.base_of.Tie as tie
+use Rattle.body.specs.declared.rows.Base.{Base}
+use Rattle.body.proofs.rows.base_of.Statement.{statement}
+use Rattle.body.proofs.rows.base_of.Tie as tie
 
 returns : tie.Need-returns
 returns c =

@@ -1,25 +1,23 @@
 -- What each entry's fields come to, fault by fault, in the code's forms.
 use mathlib.Core.Bool.{Bool, true, false}
-use mathlib.Core.Path.{_≡_, ap, ap₂, _∙_}
+use mathlib.Core.Path.{_≡_, ap}
 use mathlib.Core.List.{List}
 use Prim.Native.Nat.{ℕ}
 use lib.IntN.{ℤ, pos}
-use lib.ListN.{length, drop}
-use Rattle.big_endian.specs.Fixed.{readBe8}
+use lib.ListN.{length}
 use Rattle.wal_types.specs.declared.Refusal.{Refusal}
 use Rattle.wal_types.specs.declared.SeriesId.{SeriesId}
 use Rattle.wal_types.specs.declared.Timestamp.{Timestamp}
 use Rattle.wal_types.specs.Terms.{offset, seriesId, timestamp}
-use Rattle.wal_types.specs.Deltas.{plus, fromBits}
 use Rattle.body_format.specs.declared.EntryAnswer.the-variants.{Found, Refused}
 use Rattle.body_format.specs.Fields.{got, fault, Texts, fixedAt, uvarintAt, varintAt, byteAt, textListAt}
 use Rattle.body_format.specs.Entries.{Row, typeByte, rowAt, seriesAt, sampleAt, tombstoneAt, exemplarAt, metadataAt, entryAt}
 use Rattle.body_format.specs.Reading.{answerEntry}
-use Rattle.body.specs.declared.entries.Base.{Base}
-use Rattle.body.specs.declared.entries.RowRead.the-variants as row
+use Rattle.body.specs.declared.rows.Base.{Base}
+use Rattle.body.specs.declared.rows.RowRead.the-variants as row
 use Rattle.body.specs.declared.strings.TextListRead.{TextListRead}
 use Rattle.body.specs.declared.strings.TextListRead.the-variants as list
-use Rattle.body.specs.Answers.{rowsKind, base, baseIn, rowRead, labelsRead}
+use Rattle.body.specs.Answers.{rowsKind, base, baseIn, rowRead, rowGot, labelsRead}
 use Rattle.body.proofs.Forms.{never, list-got, list-fault}
 
 module _ (s : List ℕ) (p : ℕ) where
@@ -37,15 +35,11 @@ module _ (s : List ℕ) (p : ℕ) where
   unfolding rowAt
   row-3 h i j = rw (h, i, j)
 
-  pub row-all : {d q e r v next sum first : ℕ} {from : SeriesId} (id : SeriesId) (time : Timestamp)
-      → uvarintAt s p ≡ got d q → uvarintAt s q ≡ got e r → fixedAt s r ≡ got v next
-      → base from first ≡ baseIn s → id .0 ≡ plus (from .0) d → sum ≡ plus first e → time .0 ≡ fromBits sum
-      → row.Got id time v next ≡ rowRead (rowAt s p)
+  pub row-all : {d q e r v next first : ℕ} {from : SeriesId}
+      → uvarintAt s p ≡ got d q → uvarintAt s q ≡ got e r → fixedAt s r ≡ got v next → base from first ≡ baseIn s
+      → rowGot from first d e v next ≡ rowRead (rowAt s p)
   unfolding rowAt
-  row-all {d} {q} {e} {r} {v} {next} id time h i j b x y z =
-      let a : id .0 ≡ plus (readBe8 (drop 1 s)) d = x ∙ ap (λ (w : Base). plus (w .id .0) d) b in
-      let t : time .0 ≡ fromBits (plus (readBe8 (drop 9 s)) e) = z ∙ ap fromBits (y ∙ ap (λ (w : Base). plus (w .time) e) b) in
-      rw (h, i, j) (ap₂ (λ (m : ℕ) (n : ℤ). row.Got (seriesId m) (timestamp n) v next) a t)
+  row-all {d} {e = e} {v = v} {next = next} h i j b = rw (h, i, j) (ap (λ (w : Base). rowGot (w .id) (w .time) d e v next) b)
 
   -- type 1
   pub series-1 : {why : Refusal} → fixedAt s p ≡ fault why → Refused why ≡ answerEntry (seriesAt s p)

@@ -1,19 +1,19 @@
--- `row_at` meets its contract, field by field.
+-- `long_row_at` meets its contract, field by field.
 use borrow.Author.Needs.{needs}
-use Rattle.wal_types.specs.Deltas.{plus}
+use mathlib.Core.Path.{_∙_}
 use Rattle.body.proofs.Forms.{number-got, number-fault}
-use Rattle.body.proofs.Rows.{row-1, row-2, row-3, row-all}
-use Rattle.body.proofs.entries.row_at.Statement.{statement}
-use Rattle.body.proofs.entries.row_at.Tie as tie
+use Rattle.body.proofs.Parts.{row-1, row-2, row-3, row-all}
+use Rattle.body.proofs.rows.long_row_at.Statement.{statement}
+use Rattle.body.proofs.rows.long_row_at.Tie as tie
 
 returns : tie.Need-returns
-unfolding plus
 returns c =
-    row-all _ _ (c .before .id-plus .result) (c .time-of-bits .result)
-    (number-got _ _ (c .before .before .before .before .before .before .before .before .before .before .before .before .before .before .uvarint-at .ensures) (c .before .before .before .before .before .before .before .before .before .before .before .before .from-id .given .1))
-    (number-got _ _ (c .before .before .before .before .before .before .before .before .before .before .uvarint-at2 .ensures) (c .before .before .before .before .before .before .before .before .from-time .given .1))
-    (number-got _ _ (c .before .before .before .before .before .before .fixed-at .ensures) (c .before .before .before .before .bits .given .1))
-    (c .before .before .before .before .before .before .before .before .before .before .before .before .before .before .before .before .pre) (c .before .id-plus .ensures) (c .before .before .wrapping-add-u64 .ensures) (c .time-of-bits .ensures)
+    c .row-of .ensures
+    ∙ row-all _ _
+    (number-got _ _ (c .before .before .before .before .before .before .before .before .before .before .before .before .uvarint-at .ensures) (c .before .before .before .before .before .before .before .before .before .before .from-id .given .1))
+    (number-got _ _ (c .before .before .before .before .before .before .before .before .uvarint-at2 .ensures) (c .before .before .before .before .before .before .from-time .given .1))
+    (number-got _ _ (c .before .before .before .before .fixed-at .ensures) (c .before .before .bits .given .1))
+    (c .before .before .before .before .before .before .before .before .before .before .before .before .before .before .pre)
 
 returns-2 : tie.Need-returns-2
 returns-2 c =
@@ -28,8 +28,8 @@ returns-3 c = row-2 _ _ (number-got _ _ (c .before .before .before .before .befo
 returns-4 : tie.Need-returns-4
 returns-4 c = row-1 _ _ (number-fault _ _ (c .before .before .before .uvarint-at .ensures) (c .before .why3 .given .1))
 
-pub row-at-spec : {M : Type 1} → statement M
-row-at-spec =
+pub long-row-at-spec : {M : Type 1} → statement M
+long-row-at-spec =
     tie.close
     (tie.spec
     (λ c κs. search needs)
@@ -38,8 +38,6 @@ row-at-spec =
     (λ c. search needs)
     (λ c κs. search needs)
     (λ c. search needs)
-    (λ c κs. search needs)
-    (λ c κs. search needs)
     (λ c κs. search needs)
     (λ c. search needs)
     (λ c. search needs)

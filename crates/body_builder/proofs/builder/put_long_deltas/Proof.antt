@@ -1,11 +1,11 @@
--- `put_deltas` meets its contract: three puts in a row.
+-- `put_long_deltas` meets its contract: three puts in a row.
 use borrow.Author.Needs.{needs}
 use Rattle.uvarint.specs.Uvarint.{uvarint}
 use Rattle.big_endian.specs.Fixed.{be8}
 use Rattle.body_builder.specs.Sizes.{rowTail}
 use Rattle.body_builder.proofs.Putting.{put-three}
-use Rattle.body_builder.proofs.builder.put_deltas.Statement.{statement}
-use Rattle.body_builder.proofs.builder.put_deltas.Tie as tie
+use Rattle.body_builder.proofs.builder.put_long_deltas.Statement.{statement}
+use Rattle.body_builder.proofs.builder.put_long_deltas.Tie as tie
 
 returns : tie.Need-returns
 unfolding rowTail
@@ -16,7 +16,7 @@ returns c =
     let w = c .before .before .put-be8 .ensures in
     put-three (a .buffer .now) _ _ _ (a .at) _ _ _ (uvarint (a .id)) (uvarint (a .time)) (be8 (a .bits)) (c .before .before .before .before .before .before .before .before .before .before .before .before .before .pre) (u .0) (u .1) (v .0) (v .1) (w .0) (w .1)
 
-pub put-deltas-spec : {M : Type 1} → statement M
-put-deltas-spec =
+pub put-long-deltas-spec : {M : Type 1} → statement M
+put-long-deltas-spec =
     tie.close
     (tie.spec (λ c κs. search needs) (λ c κs. search needs) (λ c κs. search needs) (λ c. search needs) returns)

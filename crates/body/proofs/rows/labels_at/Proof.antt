@@ -1,7 +1,7 @@
 -- `labels_at` meets its contract: a list of strings, or none.
 use borrow.Author.Needs.{needs}
-use Rattle.body.proofs.entries.labels_at.Statement.{statement}
-use Rattle.body.proofs.entries.labels_at.Tie as tie
+use Rattle.body.proofs.rows.labels_at.Statement.{statement}
+use Rattle.body.proofs.rows.labels_at.Tie as tie
 
 returns : tie.Need-returns
 returns c = rw (c .before .if1 .taken) (c .text-list-at .ensures)
