@@ -1,5 +1,5 @@
 // CRC-32C (Castagnoli). Short data goes eight bytes at a time by a table: the small one of this crate, or a larger one that the caller
-// fills once and lends. Long data is folded by a sparse multiple of the polynomial, which needs no table.
+// fills once and lends. Long data is folded by two sparse multiples of the polynomial, one after the other, which needs no table.
 mod nibbles;
 
 ghost use mathlib.Core.Path.{_≡_};
@@ -10,7 +10,7 @@ ghost use Rattle.crc32c_format.specs.Crc.{bitSteps, register, crc32c};
 ghost use Rattle.crc32c_format.specs.Bytes.{littleEndian};
 ghost use Rattle.crc32c_format.specs.Table.{nibbleTable};
 ghost use Rattle.crc32c_format.specs.Lent.{lookUp2, lookUp4, tableStep1, tableStep4, tableStep8, steps, eightsEnd, foursEnd, tableRegister, sumBy};
-ghost use Rattle.crc32c_format.specs.Method.Fold.{Folded, Slid, Cleared, Rest};
+ghost use Rattle.crc32c_format.specs.Method.Fold.{onto290, onto130, taps, Folded, Slid, Cleared, Rest};
 
 // ---- bytes as a number, the first lowest
 
@@ -172,7 +172,7 @@ fn short(state: u32, s: &[u8]) -> u32
 // takes 16 at once.
 fn fold(y: &mut [u8], m: &[u8], n: usize)
     requires { ⌜ (n ≤ length (now m)) × (n + 290 ≤ length (now y)) ⌝ }
-    ensures { λ r. ⌜ Folded (now (m .entry)) (now (y .entry)) (now (y .exit)) n ⌝ }
+    ensures { λ r. ⌜ Folded onto290 (now (m .entry)) (now (y .entry)) (now (y .exit)) n ⌝ }
 {
     let mut i = 0;
     while i < n {
@@ -184,7 +184,7 @@ fn fold(y: &mut [u8], m: &[u8], n: usize)
 // The window, moved to the front of y after n bytes more were folded.
 fn slide(y: &mut [u8], n: usize)
     requires { ⌜ n + 290 ≤ length (now y) ⌝ }
-    ensures { λ r. ⌜ Slid (now (y .entry)) (now (y .exit)) n ⌝ }
+    ensures { λ r. ⌜ Slid onto290 (now (y .entry)) (now (y .exit)) n ⌝ }
 {
     let mut i = 0;
     while i < 290 {
@@ -196,7 +196,7 @@ fn slide(y: &mut [u8], n: usize)
 // No byte is behind the window.
 fn clear(y: &mut [u8])
     requires { ⌜ 426 ≤ length (now y) ⌝ }
-    ensures { λ r. ⌜ Cleared (now (y .entry)) (now (y .exit)) ⌝ }
+    ensures { λ r. ⌜ Cleared onto290 (now (y .entry)) (now (y .exit)) ⌝ }
 {
     let mut i = 290;
     while i < 426 {
@@ -208,7 +208,7 @@ fn clear(y: &mut [u8])
 // The last 290 bytes of the message, with what the window puts onto them.
 fn rest(r: &mut [u8], y: &[u8], m: &[u8])
     requires { ⌜ (length (now r) ≡ 290) × (length (now m) ≡ 290) × (426 ≤ length (now y)) ⌝ }
-    ensures { λ q. ⌜ Rest (now (m .entry)) (now (y .entry)) (now (r .exit)) ⌝ }
+    ensures { λ q. ⌜ Rest onto290 (now (m .entry)) (now (y .entry)) (now (r .exit)) ⌝ }
 {
     let mut i = 0;
     while i < 290 {
@@ -217,13 +217,60 @@ fn rest(r: &mut [u8], y: &[u8], m: &[u8])
     }
 }
 
+// The 290 bytes that this leaves are folded again, onto their last 130. The second multiple has more terms, so a byte costs more than in the first fold,
+// but less than by the table. The buffer holds them all and ends in zeros, so no window slides and nothing is cleared.
+
+// What earlier bytes put onto the byte at i, for both loops: the compiler writes it into each.
+fn taps130(y: &[u8], i: usize) -> u8
+    requires { ⌜ i + 64 < length (now y) ⌝ }
+    ensures { λ r. ⌜ r ≡ taps onto130 (now (y .entry)) i ⌝ }
+{
+    y[i + 64] ^ y[i + 63] ^ y[i + 60] ^ y[i + 33] ^ y[i + 32] ^ y[i + 25] ^ y[i]
+}
+
+// Folds the first n bytes of m into y, behind the window.
+fn fold_again(y: &mut [u8], m: &[u8], n: usize)
+    requires { ⌜ (n ≤ length (now m)) × (n + 130 ≤ length (now y)) ⌝ }
+    ensures { λ r. ⌜ Folded onto130 (now (m .entry)) (now (y .entry)) (now (y .exit)) n ⌝ }
+{
+    let mut i = 0;
+    while i < n {
+        y[i + 130] = m[i] ^ taps130(y, i);
+        i += 1;
+    }
+}
+
+// The last 130 of them, with what the window puts onto them.
+fn rest_again(r: &mut [u8], y: &[u8], m: &[u8])
+    requires { ⌜ (length (now r) ≡ 130) × (length (now m) ≡ 130) × (194 ≤ length (now y)) ⌝ }
+    ensures { λ q. ⌜ Rest onto130 (now (m .entry)) (now (y .entry)) (now (r .exit)) ⌝ }
+{
+    let mut i = 0;
+    while i < 130 {
+        r[i] = m[i] ^ taps130(y, i);
+        i += 1;
+    }
+}
+
+// The register after the 290 bytes.
+fn after_rest(m: &[u8]) -> u32
+    requires { ⌜ length (now m) ≡ 290 ⌝ }
+    ensures { λ r. ⌜ r ≡ register 0 (now (m .entry)) ⌝ }
+{
+    let mut y = [0u8; 354];
+    fold_again(&mut y, m, 160);
+    let mut r = [0u8; 130];
+    rest_again(&mut r, &y[160..], &m[160..]);
+    short(0, &r)
+}
+
 fn smaller(a: usize, b: usize) -> usize
     ensures { λ r. ⌜ r ≡ min a b ⌝ }
 {
     if a < b { a } else { b }
 }
 
-// The register after the bytes of a slice, for long data: all but the last 290 are folded onto those.
+// The register after the bytes of a slice, for long data: all but the last 290 are folded onto those, and those onto their last 130.
 fn long(state: u32, m: &[u8]) -> u32
     requires { ⌜ 290 ≤ length (now m) ⌝ }
     ensures { λ r. ⌜ r ≡ register state (now (m .entry)) ⌝ }
@@ -244,7 +291,7 @@ fn long(state: u32, m: &[u8]) -> u32
     clear(&mut y);
     let mut r = [0u8; 290];
     rest(&mut r, &y, &m[last..]);
-    short(0, &r)
+    after_rest(&r)
 }
 
 // The register after the bytes of a slice, from any register: data may come in parts.

@@ -3,13 +3,14 @@ use borrow.Author.Needs.{needs}
 use native.Mathlib.Omega.{arith}
 use mathlib.Core.Path.{refl, subst}
 use Prim.Native.Nat.{ℕ, _≤_, _-_}
-use Rattle.crc32c_format.specs.Method.Fold.{taps, Folded}
+use Rattle.crc32c_format.specs.Method.Fold.{onto290, xorOver, taps, Folded}
+use Rattle.crc32c_format.specs.Method.Sparse.{multiple290}
 use Rattle.crc32c_format.specs.Method.Window.{fold-step}
 use Rattle.crc32c.proofs.fold.Statement.{statement}
 use Rattle.crc32c.proofs.fold.Tie as tie
 
 abbrev Inv-loop : tie.InvT-loop
-Inv-loop y₀ m n i₀ y i = (i ≤ n) × Folded m y₀ y i
+Inv-loop y₀ m n i₀ y i = (i ≤ n) × Folded onto290 m y₀ y i
 
 abbrev μ-loop : tie.MeasureT-loop
 μ-loop y₀ m n i₀ y i = n - i
@@ -61,10 +62,10 @@ loop-less : tie.Need-loop-less Inv-loop μ-loop
 loop-less c = search needs
 
 loop-again : tie.Need-loop-again Inv-loop μ-loop
-unfolding taps
+unfolding taps xorOver
 loop-again c =
     let b = c .before .before .before .before .before .before .before in
-    (search needs, fold-step (b .before .args .m .now) (b .before .args .y .now) (b .loop .y) (b .loop .i) (b .loop .inv .1) (omega (arith, b .loop .inv .1 .same)))
+    (search needs, fold-step onto290 multiple290 (b .before .args .m .now) (b .before .args .y .now) (b .loop .y) (b .loop .i) (b .loop .inv .1) (omega (arith, b .loop .inv .1 .same)))
 
 same-length : tie.Need-same-length Inv-loop μ-loop
 same-length c = c .before .loop .inv .1 .same
@@ -72,7 +73,7 @@ same-length c = c .before .loop .inv .1 .same
 returns : tie.Need-returns Inv-loop μ-loop
 returns c =
     let b = c .before in
-    subst (λ (k : ℕ). Folded (b .before .args .m .now) (b .before .args .y .now) (b .loop .y) k) {x = b .loop .i} {y = b .before .args .n} (omega arith) (b .loop .inv .1)
+    subst (λ (k : ℕ). Folded onto290 (b .before .args .m .now) (b .before .args .y .now) (b .loop .y) k) {x = b .loop .i} {y = b .before .args .n} (omega arith) (b .loop .inv .1)
 
 pub fold-spec : {M : Type 1} → statement M
 fold-spec =

@@ -2,23 +2,17 @@
 use borrow.Author.Needs.{needs}
 use native.Mathlib.Omega.{arith}
 use mathlib.Core.Path.{_≡_, refl, subst, _∙_}
-use mathlib.Core.List.{List}
-use Prim.Native.Nat.{ℕ, _+_, _-_, _≤_, _<_}
-use lib.ListN.{length, getD, take, drop, length-drop}
-use lib.Seq.{length-take-le, getD-take, getD-drop}
+use Prim.Native.Nat.{_-_, _≤_}
+use lib.ListN.{length, take, drop}
+use Rattle.crc32c_format.specs.Method.Fold.{onto290}
+use Rattle.crc32c_format.specs.Method.Sparse.{multiple290}
+use Rattle.crc32c_format.specs.Method.Parts.{length-part, getD-part}
 use Rattle.crc32c_format.specs.Method.Window.{Window, window-start, window-slide, register-fold}
 use Rattle.crc32c.proofs.long.Statement.{statement}
 use Rattle.crc32c.proofs.long.Tie as tie
 
--- the bytes of m from i on
-length-behind : (m : List ℕ) (i : ℕ) → i ≤ length m → length (take (length m - i) (drop i m)) ≡ length m - i
-length-behind m i h = length-take-le (length m - i) (drop i m) (rw length-drop (omega arith))
-
-getD-behind : (m : List ℕ) (i j : ℕ) → i + j < length m → getD (take (length m - i) (drop i m)) j 0 ≡ getD m (i + j) 0
-getD-behind m i j h = getD-take (length m - i) (drop i m) j 0 (omega arith) ∙ getD-drop i m j 0
-
 abbrev Inv-loop : tie.InvT-loop
-Inv-loop state m y₀ last i₀ y i = (i ≤ last) × (length y ≡ 2338) × Window m state y i
+Inv-loop state m y₀ last i₀ y i = (i ≤ last) × (length y ≡ 2338) × Window onto290 m state y i
 
 abbrev μ-loop : tie.MeasureT-loop
 μ-loop state m y₀ last i₀ y i = last - i
@@ -52,7 +46,7 @@ sub-last c = search needs
 
 loop-holds : tie.Need-loop-holds Inv-loop μ-loop
 loop-holds c =
-    (search needs, refl, window-start 2334 (c .before .args .state) (c .before .args .m .now) (search needs))
+    (search needs, refl, window-start onto290 multiple290 2334 (c .before .args .state) (c .before .args .m .now) (search needs))
 
 sub-smaller : tie.Need-sub-smaller Inv-loop μ-loop
 sub-smaller c = search needs
@@ -75,7 +69,8 @@ part-fold-end c = search needs
 fold-requires : tie.Need-fold-requires Inv-loop μ-loop
 fold-requires c κs =
     let b = c .before .before .before .before in
-    let l = length-behind (b .before .before .args .m .now) (b .loop .i) (omega arith) in
+    let m = b .before .before .args .m .now in
+    let l = length-part (length m - b .loop .i) m (b .loop .i) (omega arith) in
     (omega (arith, c .before .before .smaller .ensures), omega (arith, c .before .before .smaller .ensures, b .loop .inv .1))
 
 slice-aggregate-slide : tie.Need-slice-aggregate-slide Inv-loop μ-loop
@@ -101,9 +96,9 @@ loop-again c =
     let l : length (c .before .before .before .before .fold .last .0) ≡ 2338 = c .before .before .before .y2 .given in (
       omega (arith, c .before .before .before .before .before .before .before .smaller .ensures),
       search needs,
-      window-slide m (take (length m - i) (drop i m)) (b .loop .y) (c .before .before .before .before .fold .last .0) (c .before .slide .last .0) (b .before .before .args .state) i n (b .loop .inv .2)
+      window-slide onto290 multiple290 m (take (length m - i) (drop i m)) (b .loop .y) (c .before .before .before .before .fold .last .0) (c .before .slide .last .0) (b .before .before .args .state) i n (b .loop .inv .2)
           (c .before .before .before .before .fold .ensures) (c .before .slide .ensures) (omega (arith, c .before .before .before .before .before .before .before .smaller .ensures, l))
-          (λ j h. getD-behind m i j (omega (arith, c .before .before .before .before .before .before .before .smaller .ensures))),
+          (λ k. omega (arith, b .before .shared-slice-known .given k)) (λ j h. getD-part (length m - i) m i j (omega (arith, c .before .before .before .before .before .before .before .smaller .ensures))),
     )
 
 slice-aggregate-clear : tie.Need-slice-aggregate-clear Inv-loop μ-loop
@@ -131,13 +126,13 @@ rest-requires : tie.Need-rest-requires Inv-loop μ-loop
 rest-requires c κs =
     let m = c .before .before .before .before .before .before .before .before .before .args .m .now in
     let l : length (c .before .before .before .before .clear .last .0) ≡ 2338 = c .before .before .before .y6 .given in
-    (refl, length-behind m (length m - 290) (omega arith) ∙ omega arith, omega (arith, l))
+    (refl, length-part (length m - (length m - 290)) m (length m - 290) (omega arith) ∙ omega arith, omega (arith, l))
 
-slice-aggregate-short : tie.Need-slice-aggregate-short Inv-loop μ-loop
-slice-aggregate-short c = search needs
+slice-aggregate-after-rest : tie.Need-slice-aggregate-after-rest Inv-loop μ-loop
+slice-aggregate-after-rest c = search needs
 
-short-requires : tie.Need-short-requires Inv-loop μ-loop
-short-requires c κs = search needs
+after-rest-requires : tie.Need-after-rest-requires Inv-loop μ-loop
+after-rest-requires c κs = search needs
 
 returns : tie.Need-returns Inv-loop μ-loop
 returns c =
@@ -145,10 +140,10 @@ returns c =
     let b = c .before .before .before .before .before .before .before .before .before .before .before in
     let m = a .m .now in
     let last = length m - 290 in
-    c .short .ensures
-    ∙ register-fold m (take (length m - last) (drop last m)) (b .loop .y) (c .before .before .before .before .before .before .before .before .clear .last .0) (c .before .before .before .rest .last .0) (a .state) last
-    (subst (Window m (a .state) (b .loop .y)) {x = b .loop .i} {y = last} (omega arith) (b .loop .inv .2))
-    (c .before .before .before .before .before .before .before .before .clear .ensures) (c .before .before .before .rest .ensures) (λ j h. getD-behind m last j (omega arith)) (omega arith) (search needs)
+    c .after-rest .ensures
+    ∙ register-fold onto290 multiple290 m (take (length m - last) (drop last m)) (b .loop .y) (c .before .before .before .before .before .before .before .before .clear .last .0) (c .before .before .before .rest .last .0) (a .state) last
+    (subst (Window onto290 m (a .state) (b .loop .y)) {x = b .loop .i} {y = last} (omega arith) (b .loop .inv .2))
+    (c .before .before .before .before .before .before .before .before .clear .ensures) (c .before .before .before .rest .ensures) (λ j h. getD-part (length m - last) m last j (omega arith)) (omega arith) (search needs)
 
 pub long-spec : {M : Type 1} → statement M
 long-spec =
@@ -186,6 +181,6 @@ long-spec =
     part-rest-start
     part-rest-end
     rest-requires
-    slice-aggregate-short
-    short-requires
+    slice-aggregate-after-rest
+    after-rest-requires
     returns)

@@ -2,17 +2,17 @@
 use borrow.Author.Needs.{needs}
 use native.Mathlib.Omega.{arith}
 use mathlib.Core.Path.{_≡_, _∙_, refl}
-use Prim.Native.Nat.{ℕ, _≤_, _<_, _+_, _-_}
+use Prim.Native.Nat.{ℕ, _≤_, _<_, _-_}
 use lib.Bits.{bitXor}
 use lib.ListN.{length, getD, length-set}
-use Rattle.crc32c_format.specs.Method.Fold.{taps}
+use Rattle.crc32c_format.specs.Method.Fold.{onto290, xorOver, taps}
 use Rattle.crc32c_format.specs.Method.Lists.{set-more}
 use Rattle.crc32c.proofs.rest.Statement.{statement}
 use Rattle.crc32c.proofs.rest.Tie as tie
 
 abbrev Inv-loop : tie.InvT-loop
 Inv-loop r₀ y m i₀ r i =
-    (i ≤ 290) × (length r ≡ 290) × ((k : ℕ) → k < i → getD r k 0 ≡ bitXor (getD m k 0) (taps y k))
+    (i ≤ 290) × (length r ≡ 290) × ((k : ℕ) → k < i → getD r k 0 ≡ bitXor (getD m k 0) (taps onto290 y k))
 
 abbrev μ-loop : tie.MeasureT-loop
 μ-loop r₀ y m i₀ r i = 290 - i
@@ -60,13 +60,13 @@ loop-less : tie.Need-loop-less Inv-loop μ-loop
 loop-less c = search needs
 
 loop-again : tie.Need-loop-again Inv-loop μ-loop
-unfolding taps
+unfolding taps xorOver
 loop-again c =
     let b = c .before .before .before .before .before .before in
     let a = b .before .before .args in (
       search needs,
       length-set (b .before .loop .r) (b .before .loop .i) _ ∙ b .before .loop .inv .1,
-      set-more (λ (k : ℕ). bitXor (getD (a .m .now) k 0) (taps (a .y .now) k)) (b .before .loop .r) (b .before .loop .i) (omega arith) refl (b .before .loop .inv .2),
+      set-more (λ (k : ℕ). bitXor (getD (a .m .now) k 0) (taps onto290 (a .y .now) k)) (b .before .loop .r) (b .before .loop .i) (omega arith) refl (b .before .loop .inv .2),
     )
 
 same-length : tie.Need-same-length Inv-loop μ-loop

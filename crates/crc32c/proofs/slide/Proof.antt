@@ -1,13 +1,12 @@
--- The window moved. The invariant: the first i bytes are moved, those from i on are as they were, and y holds bytes.
+-- The window moved. The invariant: the first i bytes are moved, and those from i on are as they were.
 use borrow.Author.Needs.{needs}
 use native.Mathlib.Omega.{arith}
 use native.Mathlib.Nat.{add-comm}
-use mathlib.Core.Path.{_≡_, refl, ap, subst, _∙_}
-use mathlib.Core.Logic.{⊎-elim}
+use mathlib.Core.Path.{_≡_, refl, ap, _∙_}
 use Prim.Native.Nat.{ℕ, _≤_, _<_, _+_, _-_}
 use lib.ListN.{length, getD, length-set}
 use lib.Seq.{getD-set-other}
-use Rattle.crc32c_format.specs.Method.Lists.{lt-or-ge, set-more}
+use Rattle.crc32c_format.specs.Method.Lists.{set-more}
 use Rattle.crc32c.proofs.slide.Statement.{statement}
 use Rattle.crc32c.proofs.slide.Tie as tie
 
@@ -17,13 +16,12 @@ Inv-loop y₀ n i₀ y i =
     × (length y ≡ length y₀)
     × ((k : ℕ) → k < i → getD y k 0 ≡ getD y₀ (n + k) 0)
     × ((k : ℕ) → i ≤ k → getD y k 0 ≡ getD y₀ k 0)
-    × ((k : ℕ) → 0 < i → getD y₀ k 0 < 256)
 
 abbrev μ-loop : tie.MeasureT-loop
 μ-loop y₀ n i₀ y i = 290 - i
 
 loop-holds : tie.Need-loop-holds Inv-loop μ-loop
-loop-holds c = (search needs, refl, λ k h. absurd (omega arith), λ k h. refl, λ k h. absurd (omega arith))
+loop-holds c = (search needs, refl, λ k h. absurd (omega arith), λ k h. refl)
 
 add-y : tie.Need-add-y Inv-loop μ-loop
 add-y c = search needs
@@ -51,8 +49,6 @@ loop-again c =
       length-set y i _ ∙ b .loop .inv .1,
       set-more (λ (k : ℕ). getD (a .y .now) (a .n + k) 0) y i (omega arith) (stays (i + a .n) (omega arith) ∙ ap (λ (k : ℕ). getD (a .y .now) k 0) (add-comm i (a .n))) (b .loop .inv .2),
       λ k h. getD-set-other y i k _ 0 (λ e. omega arith) ∙ stays k (omega arith),
-      λ k h. ⊎-elim (λ (l : 0 < i). b .loop .inv .4 k l)
-          (λ (l : i ≤ 0). subst (λ (v : ℕ). v < 256) (stays k (omega arith)) (omega (arith, c .slice-known .given k))) (lt-or-ge 0 i),
     )
 
 same-length : tie.Need-same-length Inv-loop μ-loop
@@ -61,7 +57,7 @@ same-length c = search needs
 returns : tie.Need-returns Inv-loop μ-loop
 returns c =
     let b = c .before in
-    record { bytes = λ k. b .loop .inv .4 k (omega arith); byte = λ k h. b .loop .inv .2 k (omega arith) }
+    record { byte = λ k h. b .loop .inv .2 k (omega arith) }
 
 pub slide-spec : {M : Type 1} → statement M
 slide-spec =

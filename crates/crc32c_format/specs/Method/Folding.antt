@@ -1,4 +1,4 @@
--- Method, laws: a message folds to its last 290 bytes.
+-- Method, laws: a message folds to its last bytes, as many as the greatest distance of the multiple.
 use mathlib.Core.Path.{_≡_, refl, sym, ap, ap₂, _∙_, subst}
 use mathlib.Core.List.{List, [], _∷_, _++_}
 use Prim.Native.Nat.{ℕ, zero, suc, _+_, _-_, _*_, _^_, _<_, _≤_}
@@ -11,10 +11,10 @@ use lib.ListN.{length, getD, take, drop, take-append-drop, replicate, length-rep
 use lib.Seq.{length-take-le, getD-take, getD-drop, getD-append-add}
 use Rattle.crc32c_format.specs.Crc.{bitSteps, register}
 use Rattle.crc32c_format.specs.Bytes.{littleEndian}
-use Rattle.crc32c_format.specs.Method.Fold.{taps}
+use Rattle.crc32c_format.specs.Method.Fold.{Distances, xorOver, taps}
 use Rattle.crc32c_format.specs.Method.Xor.{xor-four, xor-assoc, xor-mul, xor-twice, xor-back, xor-cancel}
 use Rattle.crc32c_format.specs.Method.Steps.{bitSteps-xor, bitSteps-add, bitSteps-shift, register-littleEndian}
-use Rattle.crc32c_format.specs.Method.Sparse.{xorOver, later, later-xor, later-steps, later-eq, sparse, sparse-zero}
+use Rattle.crc32c_format.specs.Method.Sparse.{xorOver-eq, xorOver-zero, xorOver-onto, xorOver-xor, xorOver-steps, distances, sparse, Multiple, sparse-zero}
 use Rattle.crc32c_format.specs.Method.Parts.{littleEndian-append, littleEndian-lt}
 use Rattle.crc32c_format.specs.Method.Lists.{lt-or-ge}
 
@@ -70,114 +70,133 @@ littleEndian-zeros (suc n) r =
 
 -- ---- the fold
 
--- y as a number, with y seen from each of the distances on
-overlay : List ℕ → ℕ
-overlay y = bitXor (later (λ d. littleEndian (drop d y))) (littleEndian y)
-
--- a list y whose number has n bits, and whose first bytes, up to each distance, have the number c
-fold-steps : (n c : ℕ) (y : List ℕ) → 290 ≤ length y → littleEndian y < 2 ^ n → c < 2 ^ n
-    → ((d : ℕ) → 32 ≤ d → d ≤ 290 → littleEndian (take d y) ≡ c) → bitSteps n (overlay y) ≡ bitSteps n c
-unfolding overlay sparse
-fold-steps n c y h hy hc front =
-    let first : ℕ → ℕ = λ d. bitSteps (8 * d + n) c in
-    let after : ℕ → ℕ = λ d. bitSteps n (littleEndian (drop d y)) in
-    let whole : bitXor (later first) (bitSteps n (overlay y)) ≡ 0 =
-    ap (bitXor (later first))
-    (bitSteps-xor n (later (λ d. littleEndian (drop d y))) (littleEndian y)
-    ∙ ap (λ (x : ℕ). bitXor x (bitSteps n (littleEndian y))) (later-steps n (λ d. littleEndian (drop d y))))
-    ∙ sym (xor-assoc (later first) (later after) (bitSteps n (littleEndian y)))
-    ∙ ap (λ (x : ℕ). bitXor x (bitSteps n (littleEndian y)))
-    (sym (later-xor first after)
-    ∙ later-eq (λ d. bitXor (first d) (after d)) (λ d. bitSteps (8 * d + n) (littleEndian y)) (λ d l u.
-    sym (part d n y (omega arith) ∙ ap (λ (k : ℕ). bitXor (bitSteps (8 * d + n) k) (after d)) (front d l u))))
-    ∙ sparse-zero n (littleEndian y) hy in
-    sym (xor-cancel (later first) (bitSteps n (overlay y)) whole) ∙ xor-cancel (later first) (bitSteps n c) (sparse-zero n c hc)
-
--- y counts nothing past its n + 290 bytes
-small : (n : ℕ) (y : List ℕ) → n + 290 ≤ length y → ((k : ℕ) → getD y k 0 < 256) → ((k : ℕ) → n + 290 ≤ k → getD y k 0 ≡ 0)
-    → littleEndian y < 2 ^ (8 * (n + 290))
+-- y counts nothing past its first n bytes
+small : (n : ℕ) (y : List ℕ) → n ≤ length y → ((k : ℕ) → getD y k 0 < 256) → ((k : ℕ) → n ≤ k → getD y k 0 ≡ 0) → littleEndian y < 2 ^ (8 * n)
 small n y ly bytes zeros =
-    let t = take (n + 290) y in
-    let lt : length t ≡ n + 290 = length-take-le (n + 290) y ly in
-    let past : (i : ℕ) → n + 290 ≤ i → getD t i 0 ≡ 0 = λ i g. List·getD-eq-default t 0 {n = i} (omega arith) in
+    let t = take n y in
+    let lt : length t ≡ n = length-take-le n y ly in
+    let past : (i : ℕ) → n ≤ i → getD t i 0 ≡ 0 = λ i g. List·getD-eq-default t 0 {n = i} (omega arith) in
     let same : (i : ℕ) → getD y i 0 ≡ getD t i 0 =
-    λ i. ⊎-elim (λ (g : i < n + 290). sym (getD-take (n + 290) y i 0 g)) (λ (g : n + 290 ≤ i). zeros i g ∙ sym (past i g)) (lt-or-ge i (n + 290)) in
-    subst (λ (k : ℕ). k < 2 ^ (8 * (n + 290))) (sym (littleEndian-ext y t same)) (littleEndian-lt (n + 290) y bytes)
+    λ i. ⊎-elim (λ (g : i < n). sym (getD-take n y i 0 g)) (λ (g : n ≤ i). zeros i g ∙ sym (past i g)) (lt-or-ge i n) in
+    subst (λ (k : ℕ). k < 2 ^ (8 * n)) (sym (littleEndian-ext y t same)) (littleEndian-lt n y bytes)
 
--- the same, as a list
-overlaid : List ℕ → List ℕ
-overlaid y = xors (xors (drop 290 y) (xors (drop 136 y) (xors (drop 113 y) (xors (drop 107 y) (xors (drop 32 y) []))))) y
+-- l, with y seen from each of the distances on: as a number, and as a list
+overlay : List ℕ → List ℕ → List ℕ → ℕ
+overlay y l ds = xorOver (λ d. littleEndian (drop d y)) (littleEndian l) ds
 
-littleEndian-overlaid : (y : List ℕ) → littleEndian (overlaid y) ≡ overlay y
-unfolding overlaid overlay later xorOver littleEndian
-littleEndian-overlaid y = simp littleEndian-xors
+overlaid : List ℕ → List ℕ → List ℕ → List ℕ
+overlaid y l [] = l
+overlaid y l (d ∷ ds) = overlaid y (xors l (drop d y)) ds
+
+littleEndian-overlaid : (y l ds : List ℕ) → littleEndian (overlaid y l ds) ≡ overlay y l ds
+unfolding overlaid overlay xorOver
+littleEndian-overlaid y l [] = refl
+littleEndian-overlaid y l (d ∷ ds) =
+    littleEndian-overlaid y (xors l (drop d y)) ds ∙ ap (λ (x : ℕ). xorOver (λ d. littleEndian (drop d y)) x ds) (littleEndian-xors l (drop d y))
 
 getD-view : (d : ℕ) (y : List ℕ) (i : ℕ) → getD (drop d y) i 0 ≡ getD y (i + d) 0
 getD-view d y i = getD-drop d y i 0 ∙ ap (λ (k : ℕ). getD y k 0) (add-comm d i)
 
-getD-overlaid : (y : List ℕ) (i : ℕ) → getD (overlaid y) i 0 ≡ bitXor (getD y (i + 290) 0) (taps y i)
-unfolding overlaid taps
-getD-overlaid y i = simp (getD-xors, getD-view, xor-zero-r, xor-assoc)
+getD-overlaid : (y l ds : List ℕ) (i : ℕ) → getD (overlaid y l ds) i 0 ≡ xorOver (λ d. getD y (i + d) 0) (getD l i 0) ds
+unfolding overlaid xorOver
+getD-overlaid y l [] i = refl
+getD-overlaid y l (d ∷ ds) i =
+    getD-overlaid y (xors l (drop d y)) ds i
+    ∙ ap (λ (x : ℕ). xorOver (λ d. getD y (i + d) 0) x ds) (getD-xors l (drop d y) i ∙ ap (bitXor (getD l i 0)) (getD-view d y i))
 
-module _ (m y r : List ℕ) (n : ℕ) (lm : length m ≡ n + 290) (lr : length r ≡ 290)
-    (byte : (i : ℕ) → i < n → getD y (i + 290) 0 ≡ bitXor (getD m i 0) (taps y i))
-    (zeros : (k : ℕ) → n + 290 ≤ k → getD y k 0 ≡ 0)
-    (rest : (j : ℕ) → j < 290 → getD r j 0 ≡ bitXor (getD m (n + j) 0) (taps y (n + j))) where
-  early : (i : ℕ) → i < n → getD m i 0 ≡ bitXor (bitXor (getD y (i + 290) 0) (taps y i)) (getD (replicate n 0 ++ r) i 0)
+-- the farthest apart, and the rest are the taps
+over-taps : (D : Distances) (y : List ℕ) (i : ℕ) → xorOver (λ d. getD y (i + d) 0) (getD y i 0) (distances D) ≡ bitXor (getD y (i + D .far) 0) (taps D y i)
+unfolding taps xorOver
+over-taps D y i =
+    let f : ℕ → ℕ = λ d. getD y (i + d) 0 in
+    ap (λ (x : ℕ). xorOver f x (D .others)) (xor-assoc (getD y i 0) (f (D .far)) (f (D .next)))
+    ∙ xorOver-onto f (getD y i 0) (bitXor (f (D .far)) (f (D .next))) (D .others)
+    ∙ ap (bitXor (getD y i 0)) (xorOver-onto f (f (D .far)) (f (D .next)) (D .others))
+    ∙ xor-comm (getD y i 0) (bitXor (f (D .far)) (xorOver f (f (D .next)) (D .others)))
+    ∙ xor-assoc (f (D .far)) (xorOver f (f (D .next)) (D .others)) (getD y i 0)
+
+module _ (D : Distances) (m y r : List ℕ) (n : ℕ) (lm : length m ≡ n + D .far) (lr : length r ≡ D .far)
+    (byte : (i : ℕ) → i < n → getD y (i + D .far) 0 ≡ bitXor (getD m i 0) (taps D y i))
+    (zeros : (k : ℕ) → n + D .far ≤ k → getD y k 0 ≡ 0)
+    (rest : (j : ℕ) → j < D .far → getD r j 0 ≡ bitXor (getD m (n + j) 0) (taps D y (n + j))) where
+  abbrev place : ℕ → Type 0
+  place i = getD m i 0 ≡ bitXor (bitXor (getD y (i + D .far) 0) (taps D y i)) (getD (replicate n 0 ++ r) i 0)
+
+  early : (i : ℕ) → i < n → place i
   early i h =
       sym (
-      ap₂ (λ (a b : ℕ). bitXor (bitXor a (taps y i)) b) (byte i h) (List·getD-append (replicate n 0) r 0 i (rw length-replicate h) ∙ getD-replicate n i 0 0 h)
+      ap₂ (λ (a b : ℕ). bitXor (bitXor a (taps D y i)) b) (byte i h) (List·getD-append (replicate n 0) r 0 i (rw length-replicate h) ∙ getD-replicate n i 0 0 h)
       ∙ xor-zero-r _
-      ∙ xor-back (getD m i 0) (taps y i))
+      ∙ xor-back (getD m i 0) (taps D y i))
 
-  no-taps : (j : ℕ) → 290 ≤ j → taps y (n + j) ≡ 0
+  no-taps : (j : ℕ) → D .far ≤ j → taps D y (n + j) ≡ 0
   unfolding taps
   no-taps j h =
-      simp (zeros (n + j + 136) (omega arith), zeros (n + j + 113) (omega arith), zeros (n + j + 107) (omega arith), zeros (n + j + 32) (omega arith), zeros (n + j) (omega arith))
+      ap₂ bitXor (xorOver-zero (λ d. getD y (n + j + d) 0) (D .others) (zeros (n + j + D .next) (omega arith)) (λ d. zeros (n + j + d) (omega arith))) (zeros (n + j) (omega arith))
 
-  late : (j : ℕ) → getD m (n + j) 0 ≡ bitXor (bitXor (getD y (n + j + 290) 0) (taps y (n + j))) (getD (replicate n 0 ++ r) (n + j) 0)
+  late : (j : ℕ) → place (n + j)
   late j =
       let pad : getD (replicate n 0 ++ r) (n + j) 0 ≡ getD r j 0 =
       ap (λ (k : ℕ). getD (replicate n 0 ++ r) (k + j) 0) (sym (length-replicate n 0)) ∙ getD-append-add (replicate n 0) r j 0 in
-      let gone : getD y (n + j + 290) 0 ≡ 0 = zeros (n + j + 290) (omega arith) in
+      let gone : getD y (n + j + D .far) 0 ≡ 0 = zeros (n + j + D .far) (omega arith) in
       sym (
-      ap₂ (λ (a b : ℕ). bitXor (bitXor a (taps y (n + j))) b) gone pad
+      ap₂ (λ (a b : ℕ). bitXor (bitXor a (taps D y (n + j))) b) gone pad
       ∙ ⊎-elim
-      (λ (h : j < 290). ap (bitXor (taps y (n + j))) (rest j h ∙ xor-comm (getD m (n + j) 0) (taps y (n + j))) ∙ xor-twice (taps y (n + j)) (getD m (n + j) 0))
-      (λ (h : 290 ≤ j). ap₂ bitXor (no-taps j h) (List·getD-eq-default r 0 {n = j} (omega arith)) ∙ sym (List·getD-eq-default m 0 {n = n + j} (omega arith)))
-      (lt-or-ge j 290))
+      (λ (h : j < D .far). ap (bitXor (taps D y (n + j))) (rest j h ∙ xor-comm (getD m (n + j) 0) (taps D y (n + j))) ∙ xor-twice (taps D y (n + j)) (getD m (n + j) 0))
+      (λ (h : D .far ≤ j). ap₂ bitXor (no-taps j h) (List·getD-eq-default r 0 {n = j} (omega arith)) ∙ sym (List·getD-eq-default m 0 {n = n + j} (omega arith)))
+      (lt-or-ge j (D .far)))
 
-  abbrev place : ℕ → Type 0
-  place i = getD m i 0 ≡ bitXor (bitXor (getD y (i + 290) 0) (taps y i)) (getD (replicate n 0 ++ r) i 0)
-
-  message : littleEndian m ≡ bitXor (overlay y) (littleEndian r * 2 ^ (8 * n))
+  message : littleEndian m ≡ bitXor (overlay y y (distances D)) (littleEndian r * 2 ^ (8 * n))
   message =
-      littleEndian-ext m (xors (overlaid y) (replicate n 0 ++ r)) (λ i.
+      let over = overlaid y y (distances D) in
+      let pad = replicate n 0 ++ r in
+      littleEndian-ext m (xors over pad) (λ i.
       ⊎-elim (λ (h : i < n). early i h) (λ (h : n ≤ i). subst place {x = n + (i - n)} {y = i} (omega arith) (late (i - n))) (lt-or-ge i n)
-      ∙ sym (getD-xors (overlaid y) (replicate n 0 ++ r) i ∙ ap (λ (k : ℕ). bitXor k (getD (replicate n 0 ++ r) i 0)) (getD-overlaid y i)))
-      ∙ littleEndian-xors (overlaid y) (replicate n 0 ++ r)
-      ∙ ap₂ bitXor (littleEndian-overlaid y) (littleEndian-zeros n r)
+      ∙ sym (getD-xors over pad i ∙ ap (λ (k : ℕ). bitXor k (getD pad i 0)) (getD-overlaid y y (distances D) i ∙ over-taps D y i)))
+      ∙ littleEndian-xors over pad
+      ∙ ap₂ bitXor (littleEndian-overlaid y y (distances D)) (littleEndian-zeros n r)
 
--- what the fold leaves: the last 290 bytes, with what is put onto them
-pub folded : (m y r : List ℕ) (c n : ℕ) → length m ≡ n + 290 → length r ≡ 290 → n + 290 ≤ length y → c < 2 ^ 32
-    → ((k : ℕ) → getD y k 0 < 256)
-    → ((i : ℕ) → i < n → getD y (i + 290) 0 ≡ bitXor (getD m i 0) (taps y i))
-    → ((k : ℕ) → n + 290 ≤ k → getD y k 0 ≡ 0)
-    → ((d : ℕ) → 32 ≤ d → d ≤ 290 → littleEndian (take d y) ≡ c)
-    → ((j : ℕ) → j < 290 → getD r j 0 ≡ bitXor (getD m (n + j) 0) (taps y (n + j)))
-    → register c m ≡ register 0 r
-folded m y r c n lm lr ly hc bytes byte zeros front rest =
-    let N = 8 * (n + 290) in
-    let hy : littleEndian y < 2 ^ N = small n y ly bytes zeros in
-    let hs : bitSteps N (overlay y) ≡ bitSteps N c = fold-steps N c y (omega arith) hy (lt-of-lt-of-le hc (pow-mono {i = 32} {j = N} (omega arith))) front in
-    let hr : bitSteps N (littleEndian r * 2 ^ (8 * n)) ≡ bitSteps 2320 (littleEndian r) =
-    ap (λ (k : ℕ). bitSteps k (littleEndian r * 2 ^ (8 * n))) {x = N} {y = 8 * n + 2320} (omega arith)
-    ∙ bitSteps-add (8 * n) 2320 (littleEndian r * 2 ^ (8 * n)) ∙ ap (bitSteps 2320) (bitSteps-shift (8 * n) (littleEndian r)) in
-    register-littleEndian c m
-    ∙ ap (λ (k : ℕ). bitSteps (8 * k) (bitXor c (littleEndian m))) lm
-    ∙ bitSteps-xor N c (littleEndian m)
-    ∙ ap (λ (k : ℕ). bitXor (bitSteps N c) (bitSteps N k)) (message m y r n lm lr byte zeros rest)
-    ∙ ap (bitXor (bitSteps N c)) (bitSteps-xor N (overlay y) (littleEndian r * 2 ^ (8 * n)) ∙ ap₂ bitXor hs hr)
-    ∙ xor-twice (bitSteps N c) (bitSteps 2320 (littleEndian r))
-    ∙ ap (λ (k : ℕ). bitSteps (8 * k) (littleEndian r)) (sym lr)
-    ∙ sym (register-littleEndian 0 r)
+module _ (D : Distances) (M : Multiple D) where
+  -- a list y whose number has n bits, and whose first bytes, up to each distance, have the number c
+  fold-steps : (n c : ℕ) (y : List ℕ) → D .far ≤ length y → littleEndian y < 2 ^ n → c < 2 ^ n
+      → ((d : ℕ) → 4 ≤ d → d ≤ D .far → littleEndian (take d y) ≡ c) → bitSteps n (overlay y y (distances D)) ≡ bitSteps n c
+  unfolding overlay sparse
+  fold-steps n c y h hy hc front =
+      let first : ℕ → ℕ = λ d. bitSteps (8 * d + n) c in
+      let whole : ℕ → ℕ = λ d. bitSteps (8 * d + n) (littleEndian y) in
+      let after : ℕ → ℕ = λ d. bitSteps n (littleEndian (drop d y)) in
+      let one : (d : ℕ) → (4 ≤ d) × (d ≤ D .far) → after d ≡ bitXor (first d) (whole d) =
+      λ d l. sym (ap (bitXor (first d)) (part d n y (omega arith) ∙ ap (λ (k : ℕ). bitXor (bitSteps (8 * d + n) k) (after d)) (front d (l .0) (l .1))) ∙ xor-twice (first d) (after d)) in
+      xor-cancel (bitSteps n (overlay y y (distances D))) (bitSteps n c) (
+      xor-comm (bitSteps n (overlay y y (distances D))) (bitSteps n c)
+      ∙ ap (bitXor (bitSteps n c)) (xorOver-steps n (λ d. littleEndian (drop d y)) (littleEndian y) (distances D))
+      ∙ sym (xorOver-onto after (bitSteps n c) (bitSteps n (littleEndian y)) (distances D))
+      ∙ xorOver-eq after (λ d. bitXor (first d) (whole d)) (distances D) (M .all) refl one
+      ∙ xorOver-xor first whole (bitSteps n c) (bitSteps n (littleEndian y)) (distances D)
+      ∙ ap₂ bitXor (sparse-zero D M n c hc) (sparse-zero D M n (littleEndian y) hy))
+
+  -- what the fold leaves: the last bytes, with what is put onto them
+  pub folded : (m y r : List ℕ) (c n : ℕ) → length m ≡ n + D .far → length r ≡ D .far → n + D .far ≤ length y → c < 2 ^ 32
+      → ((k : ℕ) → getD y k 0 < 256)
+      → ((i : ℕ) → i < n → getD y (i + D .far) 0 ≡ bitXor (getD m i 0) (taps D y i))
+      → ((k : ℕ) → n + D .far ≤ k → getD y k 0 ≡ 0)
+      → ((d : ℕ) → 4 ≤ d → d ≤ D .far → littleEndian (take d y) ≡ c)
+      → ((j : ℕ) → j < D .far → getD r j 0 ≡ bitXor (getD m (n + j) 0) (taps D y (n + j)))
+      → register c m ≡ register 0 r
+  folded m y r c n lm lr ly hc bytes byte zeros front rest =
+      let N = 8 * (n + D .far) in
+      let R = 8 * D .far in
+      let hy : littleEndian y < 2 ^ N = small (n + D .far) y ly bytes zeros in
+      let hs : bitSteps N (overlay y y (distances D)) ≡ bitSteps N c =
+      fold-steps N c y (omega arith) hy (lt-of-lt-of-le hc (pow-mono {i = 32} {j = N} (omega (arith, M .all .0 .0)))) front in
+      let hr : bitSteps N (littleEndian r * 2 ^ (8 * n)) ≡ bitSteps R (littleEndian r) =
+      ap (λ (k : ℕ). bitSteps k (littleEndian r * 2 ^ (8 * n))) {x = N} {y = 8 * n + R} (omega arith)
+      ∙ bitSteps-add (8 * n) R (littleEndian r * 2 ^ (8 * n)) ∙ ap (bitSteps R) (bitSteps-shift (8 * n) (littleEndian r)) in
+      register-littleEndian c m
+      ∙ ap (λ (k : ℕ). bitSteps (8 * k) (bitXor c (littleEndian m))) lm
+      ∙ bitSteps-xor N c (littleEndian m)
+      ∙ ap (λ (k : ℕ). bitXor (bitSteps N c) (bitSteps N k)) (message D m y r n lm lr byte zeros rest)
+      ∙ ap (bitXor (bitSteps N c)) (bitSteps-xor N (overlay y y (distances D)) (littleEndian r * 2 ^ (8 * n)) ∙ ap₂ bitXor hs hr)
+      ∙ xor-twice (bitSteps N c) (bitSteps R (littleEndian r))
+      ∙ ap (λ (k : ℕ). bitSteps (8 * k) (littleEndian r)) (sym lr)
+      ∙ sym (register-littleEndian 0 r)

@@ -7,7 +7,7 @@ use native.Mathlib.Omega.{arith}
 use lib.Bits.{bitXor, xor-lt, xor-zero-r, xor-comm, xor-shifted}
 use lib.Pow.{pow-add, pow-mono, pow-pos, shl-lt}
 use lib.ListN.{length, getD, take, drop, take-append-drop, length-drop, drop-of-length-le}
-use lib.Seq.{drop-cons, drop-drop, take-add, length-take-le}
+use lib.Seq.{drop-cons, drop-drop, take-add, length-take-le, getD-take, getD-drop}
 use Rattle.crc32c_format.specs.Crc.{bitSteps, register}
 use Rattle.crc32c_format.specs.Bytes.{littleEndian}
 use Rattle.crc32c_format.specs.Method.Xor.{xor-assoc, xor-mul}
@@ -55,8 +55,11 @@ littleEndian-append (x ∷ xs) ys =
 pub take-twice : (n : ℕ) (s : List ℕ) (at : ℕ) → take (n + n) (drop at s) ≡ take n (drop at s) ++ take n (drop (at + n) s)
 take-twice n s at = take-add n n (drop at s) ∙ ap (λ (l : List ℕ). take n (drop at s) ++ take n l) (drop-drop n at s)
 
-length-part : (n : ℕ) (s : List ℕ) (at : ℕ) → at + n ≤ length s → length (take n (drop at s)) ≡ n
+pub length-part : (n : ℕ) (s : List ℕ) (at : ℕ) → at + n ≤ length s → length (take n (drop at s)) ≡ n
 length-part n s at h = length-take-le n (drop at s) (rw length-drop (omega arith))
+
+pub getD-part : (n : ℕ) (s : List ℕ) (at j : ℕ) → j < n → getD (take n (drop at s)) j 0 ≡ getD s (at + j) 0
+getD-part n s at j h = getD-take n (drop at s) j 0 h ∙ getD-drop at s j 0
 
 pub littleEndian-halves : (n : ℕ) (s : List ℕ) (at : ℕ) {x y : ℕ} → at + n ≤ length s → x < 2 ^ (8 * n)
     → x ≡ littleEndian (take n (drop at s)) → y ≡ littleEndian (take n (drop (at + n) s)) → x + y * 2 ^ (8 * n) ≡ littleEndian (take (n + n) (drop at s))

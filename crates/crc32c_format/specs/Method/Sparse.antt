@@ -1,88 +1,114 @@
--- Method, laws: the sparse multiple of the polynomial, 1 + x^(8 * 32) + x^(8 * 107) + x^(8 * 113) + x^(8 * 136) + x^(8 * 290).
+-- Method, laws: a sparse multiple of the polynomial, and that the two sums of `Fold` are such.
 use mathlib.Core.Path.{_≡_, refl, sym, ap, ap₂, _∙_, subst}
 use mathlib.Core.List.{List, [], _∷_}
 use Prim.Native.Nat.{ℕ, zero, suc, _+_, _*_, _/_, _%_, _^_, _<_, _≤_}
 use native.Mathlib.Nat.{add-zero, zero-lt-suc, pow-suc, div-lt-iff-lt-mul}
 use native.Mathlib.Omega.{arith}
 use lib.Arith.{lt-one}
-use lib.Bits.{bitXor}
+use lib.Bits.{bitXor, xor-lt}
 use Rattle.crc32c_format.specs.Crc.{bitStep, bitSteps}
-use Rattle.crc32c_format.specs.Method.Xor.{digit, odd, xor-four}
+use Rattle.crc32c_format.specs.Method.Fold.{Distances, onto290, onto130, xorOver}
+use Rattle.crc32c_format.specs.Method.Xor.{digit, odd, xor-assoc, xor-four}
 use Rattle.crc32c_format.specs.Method.Steps.{bitSteps-xor, bitSteps-add, bitSteps-zero, bitSteps-split}
 
--- the xor of f over a list
-unfoldable pub xorOver : (ℕ → ℕ) → List ℕ → ℕ
-xorOver f [] = 0
-xorOver f (d ∷ ds) = bitXor (f d) (xorOver f ds)
+-- ---- xor over a list
 
-xorOver-xor : (f g : ℕ → ℕ) (ds : List ℕ) → xorOver (λ d. bitXor (f d) (g d)) ds ≡ bitXor (xorOver f ds) (xorOver g ds)
+-- a fact of each number of a list
+abbrev pub Each : (ℕ → Type 0) → List ℕ → Type 0
+Each P [] = Unit {0}
+Each P (d ∷ ds) = P d × Each P ds
+
+pub xorOver-eq : {P : ℕ → Type 0} (f g : ℕ → ℕ) (ds : List ℕ) {a b : ℕ} → Each P ds → a ≡ b → ((d : ℕ) → P d → f d ≡ g d) → xorOver f a ds ≡ xorOver g b ds
 unfolding xorOver
-xorOver-xor f g [] = refl
-xorOver-xor f g (d ∷ ds) = ap (bitXor (bitXor (f d) (g d))) (xorOver-xor f g ds) ∙ xor-four (f d) (g d) (xorOver f ds) (xorOver g ds)
+xorOver-eq f g [] e p h = p
+xorOver-eq f g (d ∷ ds) e p h = xorOver-eq f g ds (e .1) (ap₂ bitXor p (h d (e .0))) h
 
-xorOver-steps : (n : ℕ) (f : ℕ → ℕ) (ds : List ℕ) → bitSteps n (xorOver f ds) ≡ xorOver (λ d. bitSteps n (f d)) ds
+pub xorOver-zero : (f : ℕ → ℕ) (ds : List ℕ) {a : ℕ} → a ≡ 0 → ((d : ℕ) → f d ≡ 0) → xorOver f a ds ≡ 0
 unfolding xorOver
-xorOver-steps n f [] = bitSteps-zero n
-xorOver-steps n f (d ∷ ds) = bitSteps-xor n (f d) (xorOver f ds) ∙ ap (bitXor (bitSteps n (f d))) (xorOver-steps n f ds)
+xorOver-zero f [] p h = p
+xorOver-zero f (d ∷ ds) p h = xorOver-zero f ds (ap₂ bitXor p (h d)) h
 
--- the same over the five distances, in bytes, that are not 0
-unfoldable pub later : (ℕ → ℕ) → ℕ
-later f = xorOver f (290 ∷ 136 ∷ 113 ∷ 107 ∷ 32 ∷ [])
+pub xorOver-lt : {P : ℕ → Type 0} (f : ℕ → ℕ) (ds : List ℕ) {a : ℕ} → Each P ds → a < 256 → ((d : ℕ) → P d → f d < 256) → xorOver f a ds < 256
+unfolding xorOver
+xorOver-lt f [] e p h = p
+xorOver-lt f (d ∷ ds) {a} e p h = xorOver-lt f ds (e .1) (xor-lt 8 a (f d) p (h d (e .0))) h
 
-pub later-xor : (f g : ℕ → ℕ) → later (λ d. bitXor (f d) (g d)) ≡ bitXor (later f) (later g)
-unfolding later
-later-xor f g = xorOver-xor f g (290 ∷ 136 ∷ 113 ∷ 107 ∷ 32 ∷ [])
+pub xorOver-onto : (f : ℕ → ℕ) (a b : ℕ) (ds : List ℕ) → xorOver f (bitXor a b) ds ≡ bitXor a (xorOver f b ds)
+unfolding xorOver
+xorOver-onto f a b [] = refl
+xorOver-onto f a b (d ∷ ds) = ap (λ (x : ℕ). xorOver f x ds) (xor-assoc a b (f d)) ∙ xorOver-onto f a (bitXor b (f d)) ds
 
-pub later-steps : (n : ℕ) (f : ℕ → ℕ) → bitSteps n (later f) ≡ later (λ d. bitSteps n (f d))
-unfolding later
-later-steps n f = xorOver-steps n f (290 ∷ 136 ∷ 113 ∷ 107 ∷ 32 ∷ [])
+pub xorOver-xor : (f g : ℕ → ℕ) (a b : ℕ) (ds : List ℕ) → xorOver (λ d. bitXor (f d) (g d)) (bitXor a b) ds ≡ bitXor (xorOver f a ds) (xorOver g b ds)
+unfolding xorOver
+xorOver-xor f g a b [] = refl
+xorOver-xor f g a b (d ∷ ds) =
+    ap (λ (x : ℕ). xorOver (λ d. bitXor (f d) (g d)) x ds) (xor-four a b (f d) (g d)) ∙ xorOver-xor f g (bitXor a (f d)) (bitXor b (g d)) ds
 
-pub later-eq : (f g : ℕ → ℕ) → ((d : ℕ) → 32 ≤ d → d ≤ 290 → f d ≡ g d) → later f ≡ later g
-unfolding later xorOver
-later-eq f g h =
-    ap₂ bitXor (h 290 (omega arith) (omega arith))
-    (ap₂ bitXor (h 136 (omega arith) (omega arith))
-    (ap₂ bitXor (h 113 (omega arith) (omega arith))
-    (ap₂ bitXor (h 107 (omega arith) (omega arith)) (ap (λ (x : ℕ). bitXor x 0) (h 32 (omega arith) (omega arith))))))
+pub xorOver-steps : (n : ℕ) (f : ℕ → ℕ) (a : ℕ) (ds : List ℕ) → bitSteps n (xorOver f a ds) ≡ xorOver (λ d. bitSteps n (f d)) (bitSteps n a) ds
+unfolding xorOver
+xorOver-steps n f a [] = refl
+xorOver-steps n f a (d ∷ ds) =
+    xorOver-steps n f (bitXor a (f d)) ds ∙ ap (λ (x : ℕ). xorOver (λ d. bitSteps n (f d)) x ds) (bitSteps-xor n a (f d))
 
--- what is left of g after n bits, with what is left of it after n and each of the distances: the multiple, times g
-unfoldable pub sparse : ℕ → ℕ → ℕ
-sparse n g = bitXor (later (λ d. bitSteps (8 * d + n) g)) (bitSteps n g)
+-- ---- the multiples
 
--- the polynomial divides the multiple
-divides : sparse 0 1 ≡ 0
-unfolding sparse later xorOver bitSteps bitStep
-divides = refl
+-- all distances but 0
+abbrev pub distances : Distances → List ℕ
+distances D = D .far ∷ D .next ∷ D .others
 
-sparse-after : (n g : ℕ) → sparse n g ≡ bitSteps n (sparse 0 g)
-unfolding sparse bitSteps
-sparse-after n g =
-    sym (
-    bitSteps-xor n (later (λ d. bitSteps (8 * d + 0) g)) g
-    ∙ ap (λ (x : ℕ). bitXor x (bitSteps n g))
-    (later-steps n (λ d. bitSteps (8 * d + 0) g)
-    ∙ later-eq (λ d. bitSteps n (bitSteps (8 * d + 0) g)) (λ d. bitSteps (8 * d + n) g) (λ d l u. rw (add-zero (8 * d)) (sym (bitSteps-add (8 * d) n g)))))
+-- what is left of g after n bits, with what is left of it after n and each of the distances: the sum, times g
+unfoldable pub sparse : Distances → ℕ → ℕ → ℕ
+sparse D n g = xorOver (λ d. bitSteps (8 * d + n) g) (bitSteps n g) (distances D)
 
-sparse-0 : (n : ℕ) → sparse n 0 ≡ 0
-unfolding sparse later xorOver
-sparse-0 n = simp bitSteps-zero
+-- what a fold asks of its distances: the polynomial divides the sum, none is within a register's four bytes, and the greatest two are named as such
+pub record Multiple (D : Distances) : Type 0 where
+  pub all : Each (λ d. (4 ≤ d) × (d ≤ D .far)) (distances D)
+  pub less : D .next < D .far
+  pub near : Each (λ d. d ≤ D .next) (D .others)
+  pub divides : sparse D 0 1 ≡ 0
 
-sparse-digit : (n x : ℕ) → x < 2 → sparse n x ≡ 0
-sparse-digit n = digit (λ (x : ℕ). sparse n x ≡ 0) (sparse-0 n) (sparse-after n 1 ∙ ap (bitSteps n) divides ∙ bitSteps-zero n)
+divides290 : sparse onto290 0 1 ≡ 0
+unfolding sparse xorOver bitSteps bitStep
+divides290 = refl
+
+divides130 : sparse onto130 0 1 ≡ 0
+unfolding sparse xorOver bitSteps bitStep
+divides130 = refl
+
+pub multiple290 : Multiple onto290
+multiple290 = record { all = omega arith; less = omega arith; near = omega arith; divides = divides290 }
+
+pub multiple130 : Multiple onto130
+multiple130 = record { all = omega arith; less = omega arith; near = omega arith; divides = divides130 }
 
 one-bit : (m n g : ℕ) → m ≡ suc n → bitSteps m g ≡ bitXor (bitSteps m (g % 2)) (bitSteps n (g / 2))
 one-bit m n g e = subst (λ (k : ℕ). bitSteps k g ≡ bitXor (bitSteps k (g % 2)) (bitSteps n (g / 2))) {x = 1 + n} {y = m} (omega arith) (bitSteps-split 1 n g)
 
--- whatever has n bits and has left the register leaves nothing in the multiple
-pub sparse-zero : (n g : ℕ) → g < 2 ^ n → sparse n g ≡ 0
-unfolding sparse
-sparse-zero zero g h = ap (sparse 0) (lt-one h) ∙ sparse-0 0
-sparse-zero (suc n) g h =
-    let q : g / 2 < 2 ^ n = div-lt-iff-lt-mul (zero-lt-suc 1) .1 (rw pow-suc at h) in
-    let low : ℕ → ℕ = λ d. bitSteps (8 * d + suc n) (g % 2) in
-    let high : ℕ → ℕ = λ d. bitSteps (8 * d + n) (g / 2) in
-    ap₂ bitXor
-    (later-eq (λ d. bitSteps (8 * d + suc n) g) (λ d. bitXor (low d) (high d)) (λ d l u. one-bit (8 * d + suc n) (8 * d + n) g (omega arith)) ∙ later-xor low high)
-    (one-bit (suc n) n g refl)
-    ∙ xor-four (later low) (later high) (bitSteps (suc n) (g % 2)) (bitSteps n (g / 2))
-    ∙ ap₂ bitXor (sparse-digit (suc n) (g % 2) (odd g)) (sparse-zero n (g / 2) q)
+module _ (D : Distances) (M : Multiple D) where
+  sparse-after : (n g : ℕ) → sparse D n g ≡ bitSteps n (sparse D 0 g)
+  unfolding sparse bitSteps
+  sparse-after n g =
+      sym (
+      xorOver-steps n (λ d. bitSteps (8 * d + 0) g) g (distances D)
+      ∙ xorOver-eq (λ d. bitSteps n (bitSteps (8 * d + 0) g)) (λ d. bitSteps (8 * d + n) g) (distances D) (M .all) refl
+      (λ d p. rw (add-zero (8 * d)) (sym (bitSteps-add (8 * d) n g))))
+
+  sparse-0 : (n : ℕ) → sparse D n 0 ≡ 0
+  unfolding sparse
+  sparse-0 n = xorOver-zero (λ d. bitSteps (8 * d + n) 0) (distances D) (bitSteps-zero n) (λ d. bitSteps-zero (8 * d + n))
+
+  sparse-digit : (n x : ℕ) → x < 2 → sparse D n x ≡ 0
+  sparse-digit n = digit (λ (x : ℕ). sparse D n x ≡ 0) (sparse-0 n) (sparse-after n 1 ∙ ap (bitSteps n) (M .divides) ∙ bitSteps-zero n)
+
+  -- whatever has n bits and has left the register leaves nothing in the multiple
+  pub sparse-zero : (n g : ℕ) → g < 2 ^ n → sparse D n g ≡ 0
+  unfolding sparse
+  sparse-zero zero g h = ap (sparse D 0) (lt-one h) ∙ sparse-0 0
+  sparse-zero (suc n) g h =
+      let q : g / 2 < 2 ^ n = div-lt-iff-lt-mul (zero-lt-suc 1) .1 (rw pow-suc at h) in
+      let low : ℕ → ℕ = λ d. bitSteps (8 * d + suc n) (g % 2) in
+      let high : ℕ → ℕ = λ d. bitSteps (8 * d + n) (g / 2) in
+      xorOver-eq (λ d. bitSteps (8 * d + suc n) g) (λ d. bitXor (low d) (high d)) (distances D) (M .all)
+      (one-bit (suc n) n g refl) (λ d p. one-bit (8 * d + suc n) (8 * d + n) g (omega arith))
+      ∙ xorOver-xor low high (bitSteps (suc n) (g % 2)) (bitSteps n (g / 2)) (distances D)
+      ∙ ap₂ bitXor (sparse-digit (suc n) (g % 2) (odd g)) (sparse-zero n (g / 2) q)
