@@ -12,6 +12,7 @@ use lib.Dec.{eqb}
 use lib.ListN.{length, getD, drop, length-drop}
 use lib.Seq.{drop-cons, length-take-le}
 use Rattle.wal_types.specs.declared.Refusal.{Refusal}
+use Rattle.wal_types.specs.declared.Refusal.the-variants.{Short}
 use Rattle.varint.specs.declared.VarintRead.{VarintRead}
 use Rattle.varint.specs.declared.VarintRead.the-variants as v
 use Rattle.uvarint.specs.Uvarint.{readUvarint, readGroups}
@@ -22,7 +23,7 @@ use Rattle.body_format.specs.declared.CheckAnswer.the-variants.{Entries, Refuse
 use Rattle.body_format.specs.Fields.{Field, got, fault, andThen, Text, uvarintAt, varintOf, varintAt, textAt, textsAt, textListAt, fixedAt}
 use Rattle.body_format.specs.Entries.{Kind, Entry, Placed, hasRows, entryAt, entriesFrom, firstAt, entries, known}
 use Rattle.body_format.specs.Reading.{checkFields, checkKnown, checkBody, answerString}
-use Rattle.body_format.specs.Laws.Fields.{uvarint-got, text-got}
+use Rattle.body_format.specs.Laws.Fields.{fixed-got, fixed-short, uvarint-got, text-got}
 use Rattle.body_format.specs.Laws.Bounds.{Every, every-then, of-got, uvarint-ahead, fixed-ahead, texts-ahead, entry-ahead}
 use Rattle.body_format.specs.declared.StringAnswer.the-variants.{Found as StringFound, Refused as StringRefused}
 use Rattle.wal_types.specs.Terms.{offset}
@@ -221,14 +222,14 @@ count-done k s first at count i l = go (i .fuel) (i .enough) (i .same)
 -- ---- where the entries begin
 
 module _ (s : List ℕ) (h : length s ≡ 1 → ⊥) where
-  pub first-1 : {why : Refusal} → fixedAt s 1 ≡ fault why → Fault why ≡ placeRead (firstAt true s)
-  first-1 a = rw (ne-eqb (length s) 1 h, a)
+  pub first-1 : length s < 9 → Fault (Short (offset 1)) ≡ placeRead (firstAt true s)
+  first-1 l = rw (ne-eqb (length s) 1 h, fixed-short s 1 (omega arith))
 
-  pub first-2 : {n q : ℕ} {why : Refusal} → fixedAt s 1 ≡ got n q → fixedAt s q ≡ fault why → Fault why ≡ placeRead (firstAt true s)
-  first-2 a b = rw (ne-eqb (length s) 1 h, a, b)
+  pub first-2 : 9 ≤ length s → length s < 17 → Fault (Short (offset 9)) ≡ placeRead (firstAt true s)
+  first-2 a b = rw (ne-eqb (length s) 1 h, fixed-got s 1 (omega arith), fixed-short s 9 (omega arith))
 
-  pub first-all : {n q m r : ℕ} → fixedAt s 1 ≡ got n q → fixedAt s q ≡ got m r → At r ≡ placeRead (firstAt true s)
-  first-all a b = rw (ne-eqb (length s) 1 h, a, b)
+  pub first-all : 17 ≤ length s → At 17 ≡ placeRead (firstAt true s)
+  first-all l = rw (ne-eqb (length s) 1 h, fixed-got s 1 (omega arith), fixed-got s 9 (omega arith))
 
 -- all of them
 pub check-all : (k : Kind) (s : List ℕ) {first : ℕ} → checkBody s ≡ checkKnown (known k) s → (q : ℕ) × (firstAt (hasRows k) s ≡ got first q)

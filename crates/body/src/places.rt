@@ -1,10 +1,10 @@
 // Where the entries of a body begin, and how many there are.
 use crate::ends::entry_end;
-use crate::fields::NumberRead;
 use crate::fields::Place;
-use crate::fields::fixed_at;
 use crate::kinds::BodyKind;
 use body_format::CheckAnswer;
+use wal_types::Offset;
+use wal_types::Refusal;
 ghost use mathlib.Core.Path.{_≡_};
 ghost use mathlib.Core.Bool.{true};
 ghost use Prim.Native.Nat.{_≤_, _<_};
@@ -14,19 +14,19 @@ ghost use Rattle.body_format.specs.Reading.{checkFields};
 ghost use Rattle.body.specs.Answers.{kindIn, placeRead};
 
 // Rows begin behind the first id and the first timestamp, unless there is nothing behind the type byte.
-pub(crate) fn rows_begin(body: &[u8]) -> Place
+fn rows_begin(body: &[u8]) -> Place
     ensures { λ r. ⌜ r ≡ placeRead (firstAt true (now (body .entry))) ⌝ }
 {
     if body.len() == 1 {
         return Place::At(1);
     }
-    match fixed_at(body, 1) {
-        NumberRead::Got { value: _, next } => match fixed_at(body, next) {
-            NumberRead::Got { value: _, next } => Place::At(next),
-            NumberRead::Fault(why) => Place::Fault(why),
-        },
-        NumberRead::Fault(why) => Place::Fault(why),
+    if body.len() < 9 {
+        return Place::Fault(Refusal::Short(Offset(1)));
     }
+    if body.len() < 17 {
+        return Place::Fault(Refusal::Short(Offset(9)));
+    }
+    Place::At(17)
 }
 
 // Where the entries of a type begin.
