@@ -1,6 +1,6 @@
 // Copies bytes from one lent slice to another. Its specs also say what a put of bytes leaves in a lent slice, for every crate that puts some.
 ghost use mathlib.Core.Path.{_≡_};
-ghost use Prim.Native.Nat.{_+_, _-_, _*_, _/_, _≤_};
+ghost use Prim.Native.Nat.{_+_, _-_, _*_, _/_, _%_, _≤_, _<_};
 ghost use lib.ListN.{length, take, drop};
 ghost use lib.Seq.{sets};
 ghost use Rattle.copying.specs.Copied.{copied};
@@ -66,9 +66,23 @@ fn copy_front(source: &[u8], from: usize, count: usize, to: &mut [u8], at: usize
         if count <= 3 * CHUNK {
             copy32(source, from, to, at);
         } else {
-            copy_chunks(source, from, count, to, at);
+            copy_aligned(source, from, count, to, at);
         }
     }
+}
+
+// One chunk, and behind it those that start at a multiple of 16 in `to`: a store that lies across two lines of the cache takes longer, and a slice
+// mostly starts at a multiple of 16 in memory.
+fn copy_aligned(source: &[u8], from: usize, count: usize, to: &mut [u8], at: usize)
+    requires { ⌜ (48 < count) × (from + count ≤ length (now source)) × (at + count ≤ length (now to)) ⌝ }
+    ensures { λ r. ⌜ now (to .exit) ≡ sets (now (to .entry)) at (take (16 - at % 16 + (count - (16 - at % 16)) / 16 * 16) (drop from (now (source .entry)))) ⌝ }
+{
+    copy16(source, from, to, at);
+    let skip = CHUNK - at % CHUNK;
+    let next_from = from + skip;
+    let next_at = at + skip;
+    let left = count - skip;
+    copy_chunks(source, next_from, left, to, next_at);
 }
 
 // The whole chunks of `count` bytes.

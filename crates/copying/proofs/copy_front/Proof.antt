@@ -1,7 +1,7 @@
 -- `copy_front` puts down all that the last chunk does not.
 -- Assumes nothing.
 use borrow.Author.Needs.{needs}
-use Prim.Native.Nat.{_*_, _/_}
+use Prim.Native.Nat.{_+_, _-_, _*_, _/_, _%_}
 use native.Mathlib.Omega.{arith}
 use denote.Ref.{now}
 use Rattle.copying.proofs.Stores.{put-last}
@@ -21,7 +21,7 @@ returns-2 c =
 returns-3 : tie.Need-returns-3
 returns-3 c =
     let a = c .before .before .before .before .before .before .before .before .args in
-    put-last (now (a .source)) (a .from) (now (a .to)) (a .at) (a .count) 16 (a .count / 16 * 16) (omega arith) (omega arith) (omega arith) (omega arith) (c .before .before .copy-chunks .ensures)
+    put-last (now (a .source)) (a .from) (now (a .to)) (a .at) (a .count) 16 (16 - a .at % 16 + (a .count - (16 - a .at % 16)) / 16 * 16) (omega arith) (omega arith) (omega arith) (omega arith) (c .before .before .copy-aligned .ensures)
 
 pub copy-front-spec : {M : Type 1} → statement M
 copy-front-spec =
