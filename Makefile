@@ -19,7 +19,7 @@ test:
 	@tools/gate
 
 bench: $(ARCHIVE)
-	@cargo build --quiet --release --offline --features tables,bodies --manifest-path tests/compare/Cargo.toml --bin bench
+	@cargo build --quiet --release --offline --manifest-path tests/compare/Cargo.toml --bin bench
 	@build/cargo/release/bench
 
 valgrind: $(ARCHIVE)

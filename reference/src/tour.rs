@@ -1,18 +1,26 @@
-//! The lines that the product's program `reader_tour` has to print: seven records written from the
-//! start into three pages, each at the place that the write before handed back, byte i of a record
-//! being i modulo 256; then nine reads of the whole segment and nine of its first 50,000 bytes, each at
+//! The lines that the product's program `reader_tour` has to print: eight records written from the
+//! start into four pages, each at the place that the write before handed back, byte i of a record
+//! being i modulo 256; then ten reads of the whole segment and ten of its first 100,000 bytes, each at
 //! the place after the record just yielded, and at the same place again after an end or a refusal.
 //! `segment LENGTH`, then for each read `record START LENGTH AFTER`, `end` or `refused NUMBER PLACE`.
 
 use crate::segment::{self, Reading, PAGE, RECORD_MAX};
 use std::fmt::Write;
 
-const LENGTHS: [usize; 7] = [0, 1, 37, 32_754, 40_000, 25_449, 0];
-const CUT: usize = 50_000;
-const READS: usize = 9;
+const PAGES: usize = 4;
+
+/// The fourth leaves 4 bytes of filler in its page; the fifth leaves 7, so that the sixth begins
+/// with a fragment of length 0; the last ends where the segment ends.
+const LENGTHS: [usize; 8] = [0, 1, 37, 32_698, 32_754, 40_000, 25_508, 0];
+
+/// Inside the last fragment of the sixth record.
+const CUT: usize = 100_000;
+
+/// Two more than the records, so that the end is read twice.
+const READS: usize = 10;
 
 pub fn text() -> String {
-    let mut slice = vec![0; 3 * PAGE];
+    let mut slice = vec![0; PAGES * PAGE];
     let mut place = 0;
     for length in LENGTHS {
         let record: Vec<u8> = (0..length).map(|i| i as u8).collect();

@@ -1,10 +1,11 @@
-// Writes seven records into a segment of three pages and reads them by the reader: once the whole segment, and once its first
-// 50,000 bytes, which end inside the fifth record.
+// Writes eight records into a segment of four pages and reads them by the reader: once the whole segment, and once its first
+// 100,000 bytes, which end inside the last fragment of the sixth record.
 //
-// The records have 0, 1, 37, 32754, 40000, 25449 and 0 bytes; byte i of a record is i modulo 256. Each is written at the place that the write
-// before handed back, and the last ends where the segment ends.
+// The records have 0, 1, 37, 32698, 32754, 40000, 25508 and 0 bytes; byte i of a record is i modulo 256. Each is written at the place that the
+// write before handed back. Behind the fourth 4 bytes are left in its page, which are filler; behind the fifth 7, so the sixth begins with a
+// fragment of length 0; and the last ends where the segment ends.
 //
-// For each reading it prints a line `segment N`, where N is the length in bytes, and then a line for each of nine reads:
+// For each reading it prints a line `segment N`, where N is the length in bytes, and then a line for each of ten reads:
 //     record START LENGTH NEXT
 //     end
 //     refused NUMBER PLACE
@@ -15,19 +16,19 @@ use segment_format::ReadAnswer;
 use segment_format::WriteAnswer;
 use wal_types::Offset;
 
-const RECORDS: usize = 7;
+const RECORDS: usize = 8;
 
-const LENGTHS: [usize; 7] = [0, 1, 37, 32754, 40000, 25449, 0];
+const LENGTHS: [usize; 8] = [0, 1, 37, 32698, 32754, 40000, 25508, 0];
 
 // One read for each record, one that finds no more, and one that finds the same again.
-const READS: usize = 9;
+const READS: usize = 10;
 
-const CUT: usize = 50000;
+const CUT: usize = 100000;
 
 fn main() {
     let mut bytes = [0u8; 65536];
     count_up(&mut bytes);
-    let mut segment = [0u8; 98304];
+    let mut segment = [0u8; 131072];
     write_records(&mut segment, &bytes);
     let mut buffer = [0u8; 65536];
     read_records(&segment, &mut buffer);

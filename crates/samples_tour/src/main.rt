@@ -1,4 +1,4 @@
-// Fills a list of four samples from twelve bodies and prints what was answered and the whole list afterwards. Before each, all four samples are nines:
+// Fills a list of four samples from sixteen bodies and prints what was answered and the whole list afterwards. Before each, all four samples are nines:
 // so they must stand again after a refusal, and behind the samples of a body that has fewer than four.
 //
 // For each body it prints one of
@@ -15,6 +15,8 @@ fn main() {
     switches();
     deltas();
     rows();
+    others();
+    long_and_cut();
 }
 
 // No byte; an unknown type; a series body; a samples body of no entry; one that ends before its first time.
@@ -72,6 +74,26 @@ fn rows() {
         \0\0\0\0\0\0\0\0\0\x03\
         \0\0\0\0\0\0\0\0\0\x04\
         \0\0\0\0\0\0\0\0\0\x05",
+    );
+}
+
+// Bodies of the other types, the first and the last of which end inside a field: the type is looked at first.
+fn others() {
+    show(b"\x03\x01");
+    show(b"\x04");
+    show(b"\x06\x80");
+}
+
+// Five rows, and a sixth that ends behind its id: the fault is found before the list is found too short.
+fn long_and_cut() {
+    show(
+        b"\x02\0\0\0\0\0\0\0\x07\0\0\0\0\0\0\x03\xE8\
+        \0\0\0\0\0\0\0\0\0\x01\
+        \0\0\0\0\0\0\0\0\0\x02\
+        \0\0\0\0\0\0\0\0\0\x03\
+        \0\0\0\0\0\0\0\0\0\x04\
+        \0\0\0\0\0\0\0\0\0\x05\
+        \0",
     );
 }
 

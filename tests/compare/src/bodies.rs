@@ -1,16 +1,16 @@
 //! Building and reading of bodies against the second program: answer, `out`, every lent byte.
 
+mod long_lists;
+
 use crate::ffi::{self, Answer, END};
 use crate::rng::Rng;
 use crate::twin::Twin;
-use crate::Outcome;
+use crate::{Group, Outcome};
 use reference::body::{self, Entry, NewEntry, Sample, SeriesId, State, Strings, Timestamp};
 use reference::refusal::Refusal;
 use reference::segment::{self, Reading, RECORD_MAX};
 use reference::varint;
-
-/// A group's name and its cases.
-pub type Group = (&'static str, fn(&mut Rng) -> Outcome);
+use std::fmt;
 
 pub fn groups() -> Vec<Group> {
     vec![
@@ -18,6 +18,7 @@ pub fn groups() -> Vec<Group> {
         ("body, single additions", compare_additions),
         ("body, additions at the limit", compare_limit),
         ("body, lists of additions", compare_lists),
+        ("body, long lists of strings", long_lists::compare),
         ("body, hand-made bodies", compare_hand_made),
         ("body, random bytes", compare_noise),
         ("body, long bodies", compare_long),
@@ -34,7 +35,7 @@ const KINDS: [u8; 5] = [
 
 /// The longest buffer.
 const ROOM: usize = 70_000;
-/// The longest text of one addition.
+/// The longest text of one addition, long lists aside.
 const TEXT: usize = 2_000;
 /// Places and bytes used that nothing has.
 const FAR: [usize; 6] = [
@@ -57,8 +58,13 @@ struct Bench {
 
 impl Bench {
     fn new(rng: &mut Rng) -> Bench {
+        Bench::with_text(rng, TEXT)
+    }
+
+    /// With strings of at most `text` bytes together.
+    fn with_text(rng: &mut Rng, text: usize) -> Bench {
         let body = Twin::new(rng, ROOM);
-        let text = rng.bytes(TEXT + 128);
+        let text = rng.bytes(64 + text + 64);
         let old_text = text.clone();
         let cases = 0;
         Bench {
@@ -85,7 +91,7 @@ impl Bench {
         facts: &Facts,
         kind: u8,
     ) -> Result<Answer<2>, String> {
-        let guarded = [&[!0, 7], &facts.lengths[..], &[9, !0]].concat();
+        let guarded = facts.guarded_lengths();
         let strings = Strings {
             text: &self.text[64..64 + facts.text],
             lengths: &guarded[2..guarded.len() - 2],
@@ -94,8 +100,8 @@ impl Bench {
         let (ours, theirs) = self.body.both(0..length);
         let got = ffi::add(ours, state, &entry);
         let wanted = state_answer(state.used, body::add(theirs, state, &entry));
-        let what = || format!("add to {state:?} in {length} bytes: kind {kind}, {facts:?}");
-        if self.text != self.old_text || guarded[2..guarded.len() - 2] != facts.lengths {
+        let what = || format!("add to {state:?} in {length} bytes: kind {kind}, {facts}");
+        if self.text != self.old_text || guarded != facts.guarded_lengths() {
             return Err(format!("{}: the lent strings were changed", what()));
         }
         self.compare(length, got, wanted, what)
@@ -162,13 +168,19 @@ impl Bench {
             if answer.number != 0 {
                 return Ok(());
             }
-            let [.., count, mut string, after] = answer.out;
-            for _ in 0..count {
-                let [start, length] = self.string_at(length, string as usize)?.out;
-                string = start + length;
-            }
+            let [.., count, string, after] = answer.out;
+            self.read_strings(length, string, count)?;
             place = after as usize;
         }
+    }
+
+    /// Reads so many strings, the first at a place, each other one after the one before.
+    fn read_strings(&mut self, length: usize, mut place: u64, count: u64) -> Result<(), String> {
+        for _ in 0..count {
+            let [start, size] = self.string_at(length, place as usize)?.out;
+            place = start + size;
+        }
+        Ok(())
     }
 
     /// Reads at every place, and past the end.
@@ -214,7 +226,6 @@ fn entry_answer(read: Result<Option<Entry>, Refusal>) -> Answer<8> {
 // ---- Building ----
 
 /// What an addition is made of, whichever kind it is.
-#[derive(Debug)]
 struct Facts {
     id: u64,
     time: i64,
@@ -255,6 +266,22 @@ impl Facts {
             body::EXEMPLARS => NewEntry::Exemplar(sample, strings),
             _ => NewEntry::Metadata(id, self.bits as u8, strings),
         }
+    }
+
+    /// The lengths with two words before and after them, which are not lent.
+    fn guarded_lengths(&self) -> Vec<u64> {
+        [&[!0, 7], &self.lengths[..], &[9, !0]].concat()
+    }
+}
+
+impl fmt::Display for Facts {
+    /// Of a long list the first lengths are told.
+    fn fmt(&self, f: &mut fmt::Formatter) -> fmt::Result {
+        let Facts { id, time, max, .. } = self;
+        let (bits, text, count) = (self.bits, self.text, self.lengths.len());
+        let lengths = &self.lengths[..count.min(16)];
+        write!(f, "id {id}, time {time}, max {max}, bits {bits:#X}, ")?;
+        write!(f, "{count} strings in {text} bytes, lengths {lengths:?}")
     }
 }
 
@@ -322,14 +349,7 @@ fn any_kind(rng: &mut Rng) -> u8 {
 fn compare_additions(rng: &mut Rng) -> Outcome {
     let mut bench = Bench::new(rng);
     for case in 0..200_000 {
-        let used = match rng.below(12) {
-            0 => 0,
-            1..=4 => 1,
-            5 => 2 + rng.below(15),
-            6 => 17,
-            7 => rng.pick(&FAR),
-            _ => 17 + rng.below(100),
-        };
+        let used = any_used(rng);
         let length = match rng.below(4) {
             0 => rng.below(200),
             1 => used.saturating_add(rng.below(60)).min(300),
@@ -342,6 +362,18 @@ fn compare_additions(rng: &mut Rng) -> Outcome {
         }
     }
     Ok(bench.cases)
+}
+
+/// Bytes used: at and around the edges of types 2 and 4, and such as no buffer has.
+fn any_used(rng: &mut Rng) -> usize {
+    match rng.below(12) {
+        0 => 0,
+        1..=4 => 1,
+        5 => 2 + rng.below(15),
+        6 => 17,
+        7 => rng.pick(&FAR),
+        _ => 17 + rng.below(100),
+    }
 }
 
 /// Additions that end near 65,536, in buffers that end there or later.
@@ -389,63 +421,72 @@ fn compare_lists(rng: &mut Rng) -> Outcome {
     let mut bench = Bench::new(rng);
     for _ in 0..1_500 {
         bench.body.shift(rng);
-        let kind = rng.pick(&KINDS);
-        let length = 1 + rng.below(3_000);
-        let first = (any_number(rng, 7), any_number(rng, 1_000) as i64);
-        let mut used = bench.start(length, kind)?.out[0] as usize;
-        for _ in 0..rng.below(30) {
-            let facts = Facts::any(rng, first);
-            let added = if rng.once_in(20) {
-                rng.pick(&KINDS)
-            } else {
-                kind
-            };
-            let state = State { kind, used };
-            used = bench.add(length, state, &facts, added)?.out[0] as usize;
-        }
+        let used = build_list(rng, &mut bench)?;
         bench.read_through(used)?;
     }
     Ok(bench.cases)
 }
 
-// ---- Reading ----
-
-/// Bytes before the count of the first entry, all numbers short.
-fn entry_head(kind: u8) -> usize {
-    match kind {
-        body::SERIES => 9,
-        body::METADATA => 3,
-        _ => 27,
+/// Builds a body, some additions of another kind among those of its own, and hands back the bytes
+/// used.
+fn build_list(rng: &mut Rng, bench: &mut Bench) -> Result<usize, String> {
+    let kind = rng.pick(&KINDS);
+    let length = 1 + rng.below(3_000);
+    let first = (any_number(rng, 7), any_number(rng, 1_000) as i64);
+    let mut used = bench.start(length, kind)?.out[0] as usize;
+    for _ in 0..rng.below(30) {
+        let facts = Facts::any(rng, first);
+        let added = match rng.once_in(20) {
+            true => rng.pick(&KINDS),
+            false => kind,
+        };
+        let state = State { kind, used };
+        used = bench.add(length, state, &facts, added)?.out[0] as usize;
     }
+    Ok(used)
 }
+
+// ---- Reading ----
 
 /// Bodies as no builder makes them: varints longer than needed or too long, counts and lengths that
 /// lie; whole, cut and with a byte changed.
 fn compare_hand_made(rng: &mut Rng) -> Outcome {
     let mut bench = Bench::new(rng);
     for _ in 0..2_500 {
-        let mut bytes = hand_made(rng);
+        let bytes = hand_made(rng);
         bench.body.shift(rng);
         bench.body.put(&bytes);
         bench.read_through(bytes.len())?;
         bench.read_everywhere(bytes.len())?;
-        for cut in 0..bytes.len() {
-            bench.check(cut)?;
-            let place = rng.below(cut + 1);
-            bench.entry_at(cut, place)?;
-            bench.entry_at(cut, 1)?;
-            bench.string_at(cut, place)?;
-        }
-        for _ in 0..10 {
-            let place = rng.below(bytes.len());
-            let old = bytes[place];
-            bytes[place] = any_byte(rng);
-            bench.body.put(&bytes);
-            bench.read_through(bytes.len())?;
-            bytes[place] = old;
-        }
+        read_cuts(rng, &mut bench, bytes.len())?;
+        read_changed(rng, &mut bench, bytes)?;
     }
     Ok(bench.cases)
+}
+
+/// Reads the body cut at every place.
+fn read_cuts(rng: &mut Rng, bench: &mut Bench, length: usize) -> Result<(), String> {
+    for cut in 0..length {
+        bench.check(cut)?;
+        let place = rng.below(cut + 1);
+        bench.entry_at(cut, place)?;
+        bench.entry_at(cut, 1)?;
+        bench.string_at(cut, place)?;
+    }
+    Ok(())
+}
+
+/// Reads the body with one byte changed, ten times.
+fn read_changed(rng: &mut Rng, bench: &mut Bench, mut bytes: Vec<u8>) -> Result<(), String> {
+    for _ in 0..10 {
+        let place = rng.below(bytes.len());
+        let old = bytes[place];
+        bytes[place] = any_byte(rng);
+        bench.body.put(&bytes);
+        bench.read_through(bytes.len())?;
+        bytes[place] = old;
+    }
+    Ok(())
 }
 
 fn any_byte(rng: &mut Rng) -> u8 {
@@ -542,20 +583,32 @@ fn push_padded(rng: &mut Rng, number: u64, bytes: &mut Vec<u8>) {
 fn compare_noise(rng: &mut Rng) -> Outcome {
     let mut bench = Bench::new(rng);
     for _ in 0..20_000 {
-        let length = rng.below(40);
-        let mut bytes: Vec<u8> = (0..length).map(|_| any_byte(rng)).collect();
-        if let (Some(first), false) = (bytes.first_mut(), rng.once_in(10)) {
-            *first = rng.pick(&KINDS);
-        }
+        let bytes = noise(rng);
         bench.body.put(&bytes);
-        bench.read_through(length)?;
-        for _ in 0..5 {
-            let place = rng.below(length + 2);
-            bench.entry_at(length, place)?;
-            bench.string_at(length, place)?;
-        }
+        bench.read_through(bytes.len())?;
+        read_somewhere(rng, &mut bench, bytes.len())?;
     }
     Ok(bench.cases)
+}
+
+/// Less than 40 bytes, the first mostly a known type.
+fn noise(rng: &mut Rng) -> Vec<u8> {
+    let length = rng.below(40);
+    let mut bytes: Vec<u8> = (0..length).map(|_| any_byte(rng)).collect();
+    if let (Some(first), false) = (bytes.first_mut(), rng.once_in(10)) {
+        *first = rng.pick(&KINDS);
+    }
+    bytes
+}
+
+/// Reads at a few places, up to one past the end.
+fn read_somewhere(rng: &mut Rng, bench: &mut Bench, length: usize) -> Result<(), String> {
+    for _ in 0..5 {
+        let place = rng.below(length + 2);
+        bench.entry_at(length, place)?;
+        bench.string_at(length, place)?;
+    }
+    Ok(())
 }
 
 /// The bodies of a real segment, whole and cut; a delta of theirs may mean something else, but it
@@ -565,45 +618,71 @@ pub fn compare_file(rng: &mut Rng, bytes: &[u8]) -> Outcome {
     let mut buffer = vec![0; RECORD_MAX];
     let mut place = 0;
     while let Ok(Reading::Record(record)) = segment::read(bytes, place, &mut buffer) {
-        let length = record.length;
-        bench.body.put(&buffer[..length]);
-        bench.read_through(length)?;
-        for _ in 0..20 {
-            bench.check(rng.below(length + 1))?;
-            bench.entry_at(length, rng.below(length + 1))?;
-            bench.string_at(length, rng.below(length + 1))?;
-        }
+        bench.body.put(&buffer[..record.length]);
+        read_record(rng, &mut bench, record.length)?;
         place = record.after;
     }
     Ok(bench.cases)
 }
 
-/// Bodies longer than a record, of many short entries or of one entry with many strings; "of any
+/// Reads the body whole, cut, and at some places.
+fn read_record(rng: &mut Rng, bench: &mut Bench, length: usize) -> Result<(), String> {
+    bench.read_through(length)?;
+    for _ in 0..20 {
+        bench.check(rng.below(length + 1))?;
+        bench.entry_at(length, rng.below(length + 1))?;
+        bench.string_at(length, rng.below(length + 1))?;
+    }
+    Ok(())
+}
+
+/// Bodies longer than a record, of one entry with many strings or of many short entries; "of any
 /// length".
 fn compare_long(rng: &mut Rng) -> Outcome {
     let mut bench = Bench::new(rng);
     for kind in [body::SERIES, body::METADATA, body::EXEMPLARS] {
-        let mut bytes = vec![kind];
-        bytes.resize(entry_head(kind), 0);
-        varint::write_uvarint(30_000, &mut bytes);
-        bytes.resize(bytes.len() + 60_000, 0);
-        bench.body.put(&bytes);
-        for cut in [0, 1, 2, 1_000] {
-            bench.check(bytes.len() - cut)?;
-            bench.entry_at(bytes.len() - cut, 1)?;
-        }
+        read_many_strings(&mut bench, kind)?;
     }
     for kind in KINDS {
-        let mut bytes = vec![kind];
-        bytes.resize(ROOM, 0);
-        bench.body.put(&bytes);
-        for cut in 0..24 {
-            bench.check(ROOM - cut)?;
-        }
-        for _ in 0..200 {
-            bench.entry_at(ROOM, rng.below(ROOM + 1))?;
-            bench.string_at(ROOM, rng.below(ROOM + 1))?;
-        }
+        read_many_entries(rng, &mut bench, kind)?;
     }
     Ok(bench.cases)
+}
+
+/// One entry with 30,000 pairs of empty strings, all its numbers 0; whole and cut.
+fn read_many_strings(bench: &mut Bench, kind: u8) -> Result<(), String> {
+    let mut bytes = vec![kind];
+    bytes.resize(entry_head(kind), 0);
+    varint::write_uvarint(30_000, &mut bytes);
+    bytes.resize(bytes.len() + 60_000, 0);
+    bench.body.put(&bytes);
+    for cut in [0, 1, 2, 1_000] {
+        bench.check(bytes.len() - cut)?;
+        bench.entry_at(bytes.len() - cut, 1)?;
+    }
+    Ok(())
+}
+
+/// Bytes before the count of the first entry, all numbers short.
+fn entry_head(kind: u8) -> usize {
+    match kind {
+        body::SERIES => 9,
+        body::METADATA => 3,
+        _ => 27,
+    }
+}
+
+/// As many entries of zeros as there is room for; whole, cut, and at some places.
+fn read_many_entries(rng: &mut Rng, bench: &mut Bench, kind: u8) -> Result<(), String> {
+    let mut bytes = vec![kind];
+    bytes.resize(ROOM, 0);
+    bench.body.put(&bytes);
+    for cut in 0..24 {
+        bench.check(ROOM - cut)?;
+    }
+    for _ in 0..200 {
+        bench.entry_at(ROOM, rng.below(ROOM + 1))?;
+        bench.string_at(ROOM, rng.below(ROOM + 1))?;
+    }
+    Ok(())
 }

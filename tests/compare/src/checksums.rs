@@ -2,8 +2,18 @@
 
 use crate::ffi::{self, Table, TABLE_LEN};
 use crate::rng::Rng;
-use crate::Outcome;
+use crate::{Group, Outcome};
 use reference::{crc32c, selftest};
+
+pub fn groups() -> Vec<Group> {
+    vec![
+        ("checksum, published data", |_| compare_published()),
+        ("checksum, the table", |_| compare_table()),
+        ("checksum, short data", compare_short),
+        ("checksum, long data", compare_long),
+        ("checksum, strange tables", compare_strange_tables),
+    ]
+}
 
 /// Cases with data of random length.
 const RANDOM: u64 = 2_000;
@@ -16,7 +26,7 @@ pub fn own_table() -> Box<Table> {
 }
 
 /// The archive's table, equal to the second program's.
-pub fn compare_table() -> Outcome {
+fn compare_table() -> Outcome {
     let Some(table) = ffi::table() else {
         return Err("depot_wal_table wrote beside the table".to_string());
     };
@@ -29,7 +39,7 @@ pub fn compare_table() -> Outcome {
 }
 
 /// The published data.
-pub fn compare_published() -> Outcome {
+fn compare_published() -> Outcome {
     let table = own_table();
     let mut cases = 0;
     for (data, sum) in selftest::checksum_cases() {
@@ -39,7 +49,7 @@ pub fn compare_published() -> Outcome {
 }
 
 /// Every length from 0 to 1100, at every alignment; empty data also as a null pointer.
-pub fn compare_short(rng: &mut Rng) -> Outcome {
+fn compare_short(rng: &mut Rng) -> Outcome {
     let table = own_table();
     let mut cases = 0;
     for length in 0..=1100 {
@@ -53,7 +63,7 @@ pub fn compare_short(rng: &mut Rng) -> Outcome {
 }
 
 /// Random lengths up to 200,000.
-pub fn compare_long(rng: &mut Rng) -> Outcome {
+fn compare_long(rng: &mut Rng) -> Outcome {
     let table = own_table();
     let mut data = rng.bytes(200_000 + 16);
     let mut cases = 0;
@@ -82,13 +92,11 @@ pub fn compare_data(rng: &mut Rng, data: &[u8]) -> Outcome {
 }
 
 /// A table with other contents gives some answer, the same each time.
-pub fn compare_strange_tables(rng: &mut Rng) -> Outcome {
+fn compare_strange_tables(rng: &mut Rng) -> Outcome {
     let mut table = own_table();
     let data = rng.bytes(2_000);
     for _ in 0..RANDOM {
-        for number in table.iter_mut() {
-            *number = rng.number() as u32;
-        }
+        fill_with_noise(rng, &mut table);
         let part = &data[rng.below(16)..][..rng.below(1_900)];
         let sum = ffi::crc32c_with_table(&table, part);
         if sum != ffi::crc32c_with_table(&table, part) {
@@ -96,6 +104,13 @@ pub fn compare_strange_tables(rng: &mut Rng) -> Outcome {
         }
     }
     Ok(RANDOM)
+}
+
+/// Gives a table other contents.
+pub fn fill_with_noise(rng: &mut Rng, table: &mut Table) {
+    for number in table {
+        *number = rng.number() as u32;
+    }
 }
 
 /// Both calls on the same data.

@@ -2,9 +2,10 @@
 //! every second empty slice is lent as a null pointer. `out` stands between guard words and is
 //! filled with a pattern before each call.
 
-#[cfg(all(feature = "tables", feature = "bodies"))]
 pub mod bare;
+mod bodies;
 
+pub use bodies::{add, body_check, body_start, entry_at, string_at};
 use std::sync::atomic::{AtomicBool, Ordering};
 
 /// Numbers in the checksum's table.
@@ -36,7 +37,6 @@ impl<const N: usize> Answer<N> {
     }
 }
 
-#[cfg(any(feature = "segments", feature = "bodies"))]
 #[repr(C)]
 struct Guarded<const N: usize> {
     before: [u64; 2],
@@ -45,7 +45,6 @@ struct Guarded<const N: usize> {
 }
 
 /// Makes the call with a guarded `out`.
-#[cfg(any(feature = "segments", feature = "bodies"))]
 fn answer<const N: usize>(call: impl FnOnce(*mut u64) -> u32) -> Answer<N> {
     let mut lent = Guarded {
         before: [PATTERN; 2],
@@ -75,7 +74,6 @@ fn pointer<T>(slice: &[T]) -> *const T {
     }
 }
 
-#[cfg(any(feature = "segments", feature = "bodies"))]
 fn pointer_mut<T>(slice: &mut [T]) -> *mut T {
     if as_null(slice.is_empty()) {
         std::ptr::null_mut()
@@ -118,7 +116,6 @@ pub fn table() -> Option<Box<Table>> {
 
 // ---- Segments ----
 
-#[cfg(feature = "segments")]
 extern "C" {
     fn depot_wal_write(
         segment: *mut u8,
@@ -136,24 +133,6 @@ extern "C" {
         buffer_len: usize,
         out: *mut u64,
     ) -> u32;
-}
-
-#[cfg(feature = "segments")]
-pub fn write(segment: &mut [u8], place: usize, record: &[u8]) -> Answer<2> {
-    let (length, record_len) = (segment.len(), record.len());
-    let (segment, record) = (pointer_mut(segment), pointer(record));
-    answer(|out| unsafe { depot_wal_write(segment, length, place, record, record_len, out) })
-}
-
-#[cfg(feature = "segments")]
-pub fn read(segment: &[u8], place: usize, buffer: &mut [u8]) -> Answer<3> {
-    let (length, buffer_len) = (segment.len(), buffer.len());
-    let (segment, buffer) = (pointer(segment), pointer_mut(buffer));
-    answer(|out| unsafe { depot_wal_read(segment, length, place, buffer, buffer_len, out) })
-}
-
-#[cfg(feature = "tables")]
-extern "C" {
     fn depot_wal_write_with_table(
         table: *const u32,
         segment: *mut u8,
@@ -174,7 +153,18 @@ extern "C" {
     ) -> u32;
 }
 
-#[cfg(feature = "tables")]
+pub fn write(segment: &mut [u8], place: usize, record: &[u8]) -> Answer<2> {
+    let (length, record_len) = (segment.len(), record.len());
+    let (segment, record) = (pointer_mut(segment), pointer(record));
+    answer(|out| unsafe { depot_wal_write(segment, length, place, record, record_len, out) })
+}
+
+pub fn read(segment: &[u8], place: usize, buffer: &mut [u8]) -> Answer<3> {
+    let (length, buffer_len) = (segment.len(), buffer.len());
+    let (segment, buffer) = (pointer(segment), pointer_mut(buffer));
+    answer(|out| unsafe { depot_wal_read(segment, length, place, buffer, buffer_len, out) })
+}
+
 pub fn write_with_table(
     table: &Table,
     segment: &mut [u8],
@@ -189,7 +179,6 @@ pub fn write_with_table(
     })
 }
 
-#[cfg(feature = "tables")]
 pub fn read_with_table(
     table: &Table,
     segment: &[u8],
@@ -202,163 +191,4 @@ pub fn read_with_table(
     answer(|out| unsafe {
         depot_wal_read_with_table(table, segment, length, place, buffer, buffer_len, out)
     })
-}
-
-// ---- Bodies ----
-
-#[cfg(feature = "bodies")]
-pub use bodies::{add, body_check, body_start, entry_at, string_at};
-
-#[cfg(feature = "bodies")]
-mod bodies {
-    use super::{answer, pointer, pointer_mut, Answer};
-    use reference::body::{NewEntry, State};
-
-    extern "C" {
-        pub(super) fn depot_wal_body_start(
-            buffer: *mut u8,
-            len: usize,
-            kind: u8,
-            out: *mut u64,
-        ) -> u32;
-        fn depot_wal_add_series(
-            buffer: *mut u8,
-            len: usize,
-            kind: u8,
-            used: usize,
-            id: u64,
-            strings: *const u8,
-            strings_len: usize,
-            lengths: *const u64,
-            count: usize,
-            out: *mut u64,
-        ) -> u32;
-        pub(super) fn depot_wal_add_sample(
-            buffer: *mut u8,
-            len: usize,
-            kind: u8,
-            used: usize,
-            id: u64,
-            time: i64,
-            bits: u64,
-            out: *mut u64,
-        ) -> u32;
-        fn depot_wal_add_tombstone(
-            buffer: *mut u8,
-            len: usize,
-            kind: u8,
-            used: usize,
-            id: u64,
-            min: i64,
-            max: i64,
-            out: *mut u64,
-        ) -> u32;
-        fn depot_wal_add_exemplar(
-            buffer: *mut u8,
-            len: usize,
-            kind: u8,
-            used: usize,
-            id: u64,
-            time: i64,
-            bits: u64,
-            strings: *const u8,
-            strings_len: usize,
-            lengths: *const u64,
-            count: usize,
-            out: *mut u64,
-        ) -> u32;
-        fn depot_wal_add_metadata(
-            buffer: *mut u8,
-            len: usize,
-            kind: u8,
-            used: usize,
-            id: u64,
-            metric_type: u8,
-            strings: *const u8,
-            strings_len: usize,
-            lengths: *const u64,
-            count: usize,
-            out: *mut u64,
-        ) -> u32;
-        pub(super) fn depot_wal_body_check(body: *const u8, len: usize, out: *mut u64) -> u32;
-        pub(super) fn depot_wal_entry_at(
-            body: *const u8,
-            len: usize,
-            place: usize,
-            out: *mut u64,
-        ) -> u32;
-        fn depot_wal_string_at(body: *const u8, len: usize, place: usize, out: *mut u64) -> u32;
-    }
-
-    pub fn body_start(buffer: &mut [u8], kind: u8) -> Answer<2> {
-        let length = buffer.len();
-        let buffer = pointer_mut(buffer);
-        answer(|out| unsafe { depot_wal_body_start(buffer, length, kind, out) })
-    }
-
-    /// The addition of the entry's kind.
-    pub fn add(buffer: &mut [u8], state: State, entry: &NewEntry) -> Answer<2> {
-        let State { kind, used } = state;
-        let len = buffer.len();
-        let buffer = pointer_mut(buffer);
-        answer(|out| unsafe {
-            match *entry {
-                NewEntry::Series(id, s) => {
-                    let (text, lengths) = (pointer(s.text), pointer(s.lengths));
-                    let (text_len, count) = (s.text.len(), s.lengths.len());
-                    depot_wal_add_series(
-                        buffer, len, kind, used, id.0, text, text_len, lengths, count, out,
-                    )
-                }
-                NewEntry::Sample(row) => {
-                    let (id, time) = (row.id.0, row.time.0);
-                    depot_wal_add_sample(buffer, len, kind, used, id, time, row.bits, out)
-                }
-                NewEntry::Tombstone(id, min, max) => {
-                    depot_wal_add_tombstone(buffer, len, kind, used, id.0, min.0, max.0, out)
-                }
-                NewEntry::Exemplar(row, s) => {
-                    let (id, time, bits) = (row.id.0, row.time.0, row.bits);
-                    let (text, lengths) = (pointer(s.text), pointer(s.lengths));
-                    let (text_len, count) = (s.text.len(), s.lengths.len());
-                    depot_wal_add_exemplar(
-                        buffer, len, kind, used, id, time, bits, text, text_len, lengths, count,
-                        out,
-                    )
-                }
-                NewEntry::Metadata(id, metric_type, s) => {
-                    let (text, lengths) = (pointer(s.text), pointer(s.lengths));
-                    let (text_len, count) = (s.text.len(), s.lengths.len());
-                    depot_wal_add_metadata(
-                        buffer,
-                        len,
-                        kind,
-                        used,
-                        id.0,
-                        metric_type,
-                        text,
-                        text_len,
-                        lengths,
-                        count,
-                        out,
-                    )
-                }
-            }
-        })
-    }
-
-    pub fn body_check(body: &[u8]) -> Answer<1> {
-        let (pointer, length) = (pointer(body), body.len());
-        answer(|out| unsafe { depot_wal_body_check(pointer, length, out) })
-    }
-
-    pub fn entry_at(body: &[u8], place: usize) -> Answer<8> {
-        let (pointer, length) = (pointer(body), body.len());
-        answer(|out| unsafe { depot_wal_entry_at(pointer, length, place, out) })
-    }
-
-    pub fn string_at(body: &[u8], place: usize) -> Answer<2> {
-        let (pointer, length) = (pointer(body), body.len());
-        answer(|out| unsafe { depot_wal_string_at(pointer, length, place, out) })
-    }
 }

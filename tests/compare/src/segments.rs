@@ -1,17 +1,14 @@
 //! Writing and reading of segments against the second program: answer, `out`, every byte of the
 //! slice and of the buffer.
 
-use crate::checksums::own_table;
+use crate::checksums::{fill_with_noise, own_table};
 use crate::ffi::{self, Answer, Table, END};
 use crate::generate::{self, Fragment, Sample, Splitting};
 use crate::rng::Rng;
 use crate::twin::Twin;
-use crate::Outcome;
+use crate::{Group, Outcome};
 use reference::refusal::Refusal;
 use reference::segment::{self, Reading, HEADER, PAGE, RECORD_MAX, SEGMENT_MAX};
-
-/// A group's name and its cases.
-pub type Group = (&'static str, fn(&mut Rng) -> Outcome);
 
 pub fn groups() -> Vec<Group> {
     vec![
@@ -28,8 +25,7 @@ pub fn groups() -> Vec<Group> {
         ("read, random bytes", compare_noise),
         ("read, bad lengths and places", compare_bad_lengths),
         ("read, at the limit", compare_read_limit),
-        #[cfg(feature = "tables")]
-        ("strange tables", strange::compare_strange_tables),
+        ("strange tables", compare_strange_tables),
     ]
 }
 
@@ -91,12 +87,12 @@ impl Bench {
         place: usize,
         buffer: usize,
     ) -> Result<Answer<3>, String> {
-        let lent = cfg!(feature = "tables") && self.coin.once_in(2);
+        let lent = self.coin.once_in(2);
         self.cases += 1;
         let (ours, theirs) = self.segment.both(0..length);
         let (our_buffer, their_buffer) = self.buffer.both(0..buffer);
         let got = if lent {
-            read_with_table(&self.table, ours, place, our_buffer)
+            ffi::read_with_table(&self.table, ours, place, our_buffer)
         } else {
             ffi::read(ours, place, our_buffer)
         };
@@ -108,13 +104,13 @@ impl Bench {
 
     /// Writes a record of `size` bytes into the first `length` bytes of the segment, likewise.
     fn write(&mut self, length: usize, place: usize, size: usize) -> Result<Answer<2>, String> {
-        let lent = cfg!(feature = "tables") && self.coin.once_in(2);
+        let lent = self.coin.once_in(2);
         self.cases += 1;
         let start = self.cases as usize % 64;
         let (our_record, their_record) = self.records.both(start..start + size);
         let (ours, theirs) = self.segment.both(0..length);
         let got = if lent {
-            write_with_table(&self.table, ours, place, our_record)
+            ffi::write_with_table(&self.table, ours, place, our_record)
         } else {
             ffi::write(ours, place, our_record)
         };
@@ -165,19 +161,6 @@ impl Bench {
             place = answer.out[2] as usize;
         }
     }
-}
-
-#[cfg(feature = "tables")]
-use ffi::{read_with_table, write_with_table};
-
-#[cfg(not(feature = "tables"))]
-fn read_with_table(_: &Table, segment: &[u8], place: usize, buffer: &mut [u8]) -> Answer<3> {
-    ffi::read(segment, place, buffer)
-}
-
-#[cfg(not(feature = "tables"))]
-fn write_with_table(_: &Table, segment: &mut [u8], place: usize, record: &[u8]) -> Answer<2> {
-    ffi::write(segment, place, record)
 }
 
 /// What `depot_wal_read` has to answer.
@@ -265,15 +248,21 @@ fn compare_write_lists(rng: &mut Rng) -> Outcome {
         bench.segment.refill(rng);
         bench.segment.shift(rng);
         let length = PAGE * (1 + rng.below(PAGES));
-        let mut place = 0;
-        for _ in 0..rng.below(200) {
-            let size = any_length(rng, length, place);
-            place = bench.write(length, place, size)?.out[0] as usize;
-        }
+        let place = write_list(rng, &mut bench, length)?;
         bench.read_on(place, 0)?;
         bench.read_on(length, 0)?;
     }
     Ok(bench.cases)
+}
+
+/// Writes a list and hands back the final place.
+fn write_list(rng: &mut Rng, bench: &mut Bench, length: usize) -> Result<usize, String> {
+    let mut place = 0;
+    for _ in 0..rng.below(200) {
+        let size = any_length(rng, length, place);
+        place = bench.write(length, place, size)?.out[0] as usize;
+    }
+    Ok(place)
 }
 
 /// Slices that are no whole pages, or none at all.
@@ -301,31 +290,44 @@ const NEAR_LIMIT: [usize; 4] = [
     SEGMENT_MAX + PAGE,
 ];
 
+/// Places to write at, counted back from the limit.
+const BACK: [usize; 10] = [
+    SEGMENT_MAX,
+    2 * PAGE + 7,
+    2 * PAGE,
+    PAGE,
+    PAGE - 1,
+    8,
+    7,
+    6,
+    1,
+    0,
+];
+
 fn compare_write_limit(rng: &mut Rng) -> Outcome {
     let segment = Twin::zeroed(rng, SEGMENT_MAX + PAGE);
     let mut bench = Bench::with_segment(rng, segment);
     for length in NEAR_LIMIT.repeat(2) {
-        for back in [
-            SEGMENT_MAX,
-            2 * PAGE + 7,
-            2 * PAGE,
-            PAGE,
-            PAGE - 1,
-            8,
-            7,
-            6,
-            1,
-            0,
-        ] {
-            for size in [0, 1, 2, 32_761, 32_762, RECORD_MAX, RECORD_MAX + 1] {
-                bench.write(length, SEGMENT_MAX - back, size)?;
-            }
-        }
-        for place in [SEGMENT_MAX + 1, SEGMENT_MAX + PAGE, usize::MAX] {
-            bench.write(length, place, 1)?;
-        }
+        write_near_limit(&mut bench, length)?;
+        write_past_limit(&mut bench, length)?;
     }
     whole_equal(&bench)
+}
+
+fn write_near_limit(bench: &mut Bench, length: usize) -> Result<(), String> {
+    for back in BACK {
+        for size in [0, 1, 2, 32_761, 32_762, RECORD_MAX, RECORD_MAX + 1] {
+            bench.write(length, SEGMENT_MAX - back, size)?;
+        }
+    }
+    Ok(())
+}
+
+fn write_past_limit(bench: &mut Bench, length: usize) -> Result<(), String> {
+    for place in [SEGMENT_MAX + 1, SEGMENT_MAX + PAGE, usize::MAX] {
+        bench.write(length, place, 1)?;
+    }
+    Ok(())
 }
 
 /// The bytes of a segment at the limit, once for all its cases.
@@ -348,11 +350,22 @@ fn compare_written(rng: &mut Rng) -> Outcome {
         bench.put(rng, &sample);
         let length = sample.bytes.len();
         bench.read_on(length, 0)?;
-        for _ in 0..40 {
-            bench.read(length, rng.below(length + 1))?;
-        }
+        read_anywhere(rng, &mut bench, length, 40)?;
     }
     Ok(bench.cases)
+}
+
+/// So many reads, each at any place.
+fn read_anywhere(
+    rng: &mut Rng,
+    bench: &mut Bench,
+    length: usize,
+    reads: usize,
+) -> Result<(), String> {
+    for _ in 0..reads {
+        bench.read(length, rng.below(length + 1))?;
+    }
+    Ok(())
 }
 
 /// A written or a foreign segment.
@@ -386,19 +399,30 @@ fn compare_cuts(rng: &mut Rng) -> Outcome {
         bench.put(rng, &sample);
         let length = sample.bytes.len();
         for fragment in some_fragments(rng, &sample) {
-            let header = fragment.start..fragment.start + HEADER + 3;
-            let end = fragment.end.saturating_sub(3)..fragment.end + 10;
-            for cut in header.chain(end).filter(|&cut| cut <= length) {
-                bench.read(cut, fragment.record.min(cut))?;
-                if rng.once_in(20) {
-                    bench.read(cut, fragment.end.min(cut))?;
-                }
-            }
+            read_cuts(rng, &mut bench, length, fragment)?;
         }
         let cut = rng.below(length + 1);
         bench.read_on(cut, sample.start.min(cut))?;
     }
     Ok(bench.cases)
+}
+
+/// Cuts in and after the header of a fragment, and before and after its end.
+fn read_cuts(
+    rng: &mut Rng,
+    bench: &mut Bench,
+    length: usize,
+    fragment: Fragment,
+) -> Result<(), String> {
+    let header = fragment.start..fragment.start + HEADER + 3;
+    let end = fragment.end.saturating_sub(3)..fragment.end + 10;
+    for cut in header.chain(end).filter(|&cut| cut <= length) {
+        bench.read(cut, fragment.record.min(cut))?;
+        if rng.once_in(20) {
+            bench.read(cut, fragment.end.min(cut))?;
+        }
+    }
+    Ok(())
 }
 
 /// One byte of a header, of the data or of the filler changed, then put back.
@@ -409,7 +433,8 @@ fn compare_damage(rng: &mut Rng) -> Outcome {
         bench.put(rng, &sample);
         for fragment in some_fragments(rng, &sample) {
             damage_types(rng, &mut bench, &sample, fragment)?;
-            damage_rest(rng, &mut bench, &sample, fragment)?;
+            damage_header_and_filler(rng, &mut bench, &sample, fragment)?;
+            damage_data(rng, &mut bench, &sample, fragment)?;
         }
     }
     Ok(bench.cases)
@@ -432,8 +457,8 @@ fn damage_types(
     Ok(())
 }
 
-/// Each other byte of the header, some bytes of the data, each byte of filler.
-fn damage_rest(
+/// Each other byte of the header, each byte of filler.
+fn damage_header_and_filler(
     rng: &mut Rng,
     bench: &mut Bench,
     sample: &Sample,
@@ -441,7 +466,6 @@ fn damage_rest(
 ) -> Result<(), String> {
     let header = fragment.start + 1..fragment.start + HEADER;
     let filler = fragment.end..fragment.end + 6;
-    let data = fragment.end - fragment.start - HEADER;
     for place in header.chain(filler) {
         let byte = match rng.below(3) {
             0 => rng.byte(),
@@ -450,6 +474,17 @@ fn damage_rest(
         };
         damage(rng, bench, sample, fragment, place, byte)?;
     }
+    Ok(())
+}
+
+/// Some bytes of the data.
+fn damage_data(
+    rng: &mut Rng,
+    bench: &mut Bench,
+    sample: &Sample,
+    fragment: Fragment,
+) -> Result<(), String> {
+    let data = fragment.end - fragment.start - HEADER;
     for _ in 0..data.min(4) {
         let place = fragment.start + HEADER + rng.below(data);
         let byte = rng.byte();
@@ -489,24 +524,15 @@ fn compare_tails(rng: &mut Rng) -> Outcome {
     let zeros = vec![0; PAGES * PAGE];
     for _ in 0..3_000 {
         let mut sample = generate::foreign(rng, Splitting::Short);
-        let cut = match sample.fragments.len() {
-            0 => sample.start,
-            count => {
-                let fragment = sample.fragments[rng.below(count)];
-                fragment.start + rng.below(fragment.end - fragment.start + 8)
-            }
-        };
+        let cut = any_cut(rng, &sample);
         sample.bytes.truncate(cut);
         let length = tail_end(rng, sample.bytes.len()).min(PAGES * PAGE);
-        let kept = sample.bytes.len().min(length);
-        sample.bytes.truncate(kept);
+        sample.bytes.truncate(length);
         bench.put(rng, &sample);
+        let kept = sample.bytes.len();
         bench.segment.put_at(kept, &zeros[kept..length]);
         let start = sample.start.min(length);
-        bench.read_on(length, start)?;
-        for _ in 0..8 {
-            bench.read(length, start + rng.below(length - start + 1))?;
-        }
+        read_tail(rng, &mut bench, length, start)?;
         if kept < length {
             let place = kept + rng.below(length - kept).min(rng.below(60));
             bench.segment.put_at(place, &[rng.byte() % 5]);
@@ -515,6 +541,26 @@ fn compare_tails(rng: &mut Rng) -> Outcome {
         }
     }
     Ok(bench.cases)
+}
+
+/// In a fragment or shortly after it.
+fn any_cut(rng: &mut Rng, sample: &Sample) -> usize {
+    match sample.fragments.len() {
+        0 => sample.start,
+        count => {
+            let fragment = sample.fragments[rng.below(count)];
+            fragment.start + rng.below(fragment.end - fragment.start + 8)
+        }
+    }
+}
+
+/// Reads from the start on, and at some places after it.
+fn read_tail(rng: &mut Rng, bench: &mut Bench, length: usize, start: usize) -> Result<(), String> {
+    bench.read_on(length, start)?;
+    for _ in 0..8 {
+        bench.read(length, start + rng.below(length - start + 1))?;
+    }
+    Ok(())
 }
 
 /// Where the zeros end.
@@ -536,7 +582,7 @@ fn compare_foreign_long(rng: &mut Rng) -> Outcome {
     compare_splitting(rng, Splitting::Long, 600)
 }
 
-/// Foreign segments read from their start, from each fragment and from any place.
+/// Foreign segments read from their start, from each fragment, and cut near their end.
 fn compare_splitting(rng: &mut Rng, splitting: Splitting, samples: usize) -> Outcome {
     let mut bench = Bench::new(rng);
     for _ in 0..samples {
@@ -544,15 +590,27 @@ fn compare_splitting(rng: &mut Rng, splitting: Splitting, samples: usize) -> Out
         bench.put(rng, &sample);
         let length = sample.bytes.len();
         bench.read_on(length, sample.start.min(length))?;
-        for fragment in &sample.fragments {
-            bench.read(length, fragment.start.min(length))?;
-        }
-        for _ in 0..10 {
-            let cut = length - rng.below(200).min(length);
-            bench.read(cut, sample.start.min(cut))?;
-        }
+        read_fragments(&mut bench, &sample)?;
+        read_cut_ends(rng, &mut bench, &sample)?;
     }
     Ok(bench.cases)
+}
+
+fn read_fragments(bench: &mut Bench, sample: &Sample) -> Result<(), String> {
+    let length = sample.bytes.len();
+    for fragment in &sample.fragments {
+        bench.read(length, fragment.start.min(length))?;
+    }
+    Ok(())
+}
+
+fn read_cut_ends(rng: &mut Rng, bench: &mut Bench, sample: &Sample) -> Result<(), String> {
+    let length = sample.bytes.len();
+    for _ in 0..10 {
+        let cut = length - rng.below(200).min(length);
+        bench.read(cut, sample.start.min(cut))?;
+    }
+    Ok(())
 }
 
 /// Short segments of any bytes, at the start of a page and across a page's edge.
@@ -582,51 +640,67 @@ fn compare_bad_lengths(rng: &mut Rng) -> Outcome {
     for _ in 0..2_000 {
         let sample = any_sample(rng);
         bench.put(rng, &sample);
-        let length = sample.bytes.len();
-        for _ in 0..20 {
-            let buffer = match rng.below(4) {
-                0 => rng.below(RECORD_MAX),
-                1 => rng.pick(&[0, 1, RECORD_MAX - 1]),
-                2 => RECORD_MAX,
-                _ => RECORD_MAX + rng.below(48),
-            };
-            let cut = rng.pick(&[0, length, length]);
-            let place = match rng.below(3) {
-                0 => sample.start,
-                _ => any_place(rng, cut),
-            };
-            bench.read_into(cut, place, buffer)?;
-        }
+        read_badly(rng, &mut bench, &sample)?;
     }
     Ok(bench.cases)
 }
 
+fn read_badly(rng: &mut Rng, bench: &mut Bench, sample: &Sample) -> Result<(), String> {
+    let length = sample.bytes.len();
+    for _ in 0..20 {
+        let buffer = any_buffer(rng);
+        let cut = rng.pick(&[0, length, length]);
+        let place = match rng.below(3) {
+            0 => sample.start,
+            _ => any_place(rng, cut),
+        };
+        bench.read_into(cut, place, buffer)?;
+    }
+    Ok(())
+}
+
+/// Lengths of record buffers, of which those from 65,536 on are good.
+fn any_buffer(rng: &mut Rng) -> usize {
+    match rng.below(4) {
+        0 => rng.below(RECORD_MAX),
+        1 => rng.pick(&[0, 1, RECORD_MAX - 1]),
+        2 => RECORD_MAX,
+        _ => RECORD_MAX + rng.below(48),
+    }
+}
+
+const LAST_PAGE: usize = SEGMENT_MAX - PAGE;
+
 fn compare_read_limit(rng: &mut Rng) -> Outcome {
     let segment = Twin::zeroed(rng, SEGMENT_MAX + PAGE);
     let mut bench = Bench::with_segment(rng, segment);
-    let last_page = SEGMENT_MAX - PAGE;
-    bench.segment.put_at(last_page, &[1, 0, 0, 0, 0, 0, 0]);
-    bench.segment.put_at(last_page + 7, &[2, 0, 0, 0, 0, 0, 0]);
+    bench.segment.put_at(LAST_PAGE, &[1, 0, 0, 0, 0, 0, 0]);
+    bench.segment.put_at(LAST_PAGE + 7, &[2, 0, 0, 0, 0, 0, 0]);
     for length in NEAR_LIMIT.repeat(2) {
-        for place in [
-            0,
-            1,
-            last_page - 3,
-            last_page,
-            last_page + 7,
-            last_page + 14,
-            SEGMENT_MAX - 7,
-            SEGMENT_MAX - 6,
-            SEGMENT_MAX - 1,
-            SEGMENT_MAX,
-            SEGMENT_MAX + 1,
-            SEGMENT_MAX + PAGE,
-            usize::MAX,
-        ] {
-            bench.read(length, place)?;
-        }
+        read_near_limit(&mut bench, length)?;
     }
     whole_equal(&bench)
+}
+
+fn read_near_limit(bench: &mut Bench, length: usize) -> Result<(), String> {
+    for place in [
+        0,
+        1,
+        LAST_PAGE - 3,
+        LAST_PAGE,
+        LAST_PAGE + 7,
+        LAST_PAGE + 14,
+        SEGMENT_MAX - 7,
+        SEGMENT_MAX - 6,
+        SEGMENT_MAX - 1,
+        SEGMENT_MAX,
+        SEGMENT_MAX + 1,
+        SEGMENT_MAX + PAGE,
+        usize::MAX,
+    ] {
+        bench.read(length, place)?;
+    }
+    Ok(())
 }
 
 /// A real segment, read whole, cut anywhere, and from any place.
@@ -638,80 +712,71 @@ pub fn compare_file(rng: &mut Rng, bytes: &[u8]) -> Outcome {
     for _ in 0..20 {
         bench.read_on(rng.below(bytes.len() + 1), 0)?;
     }
-    for _ in 0..1_000 {
-        bench.read(bytes.len(), rng.below(bytes.len() + 1))?;
-    }
+    read_anywhere(rng, &mut bench, bytes.len(), 1_000)?;
     Ok(bench.cases)
 }
 
 // ---- Tables with other contents ----
 
-#[cfg(feature = "tables")]
-mod strange {
-    use super::*;
-
-    /// "gives sums that no reader accepts, and nothing worse": the same answer, and the same bytes
-    /// but for the sums; a reading with such a table changes no byte unless it yields a record.
-    pub fn compare_strange_tables(rng: &mut Rng) -> Outcome {
-        let mut bench = Bench::new(rng);
-        for _ in 0..3_000 {
-            for number in bench.table.iter_mut() {
-                *number = rng.number() as u32;
-            }
-            let length = PAGE * (1 + rng.below(3));
-            let place = any_place(rng, length);
-            let size = any_length(rng, length, place);
-            strange_write(&mut bench, length, place, size)?;
-            strange_read(&mut bench, length, place)?;
-        }
-        Ok(bench.cases)
+/// A write with such a table gives the same answer, and the same bytes but for the sums; a reading
+/// changes no byte unless it yields a record.
+fn compare_strange_tables(rng: &mut Rng) -> Outcome {
+    let mut bench = Bench::new(rng);
+    for _ in 0..3_000 {
+        fill_with_noise(rng, &mut bench.table);
+        let length = PAGE * (1 + rng.below(3));
+        let place = any_place(rng, length);
+        let size = any_length(rng, length, place);
+        strange_write(&mut bench, length, place, size)?;
+        strange_read(&mut bench, length, place)?;
     }
+    Ok(bench.cases)
+}
 
-    fn strange_write(
-        bench: &mut Bench,
-        length: usize,
-        place: usize,
-        size: usize,
-    ) -> Result<(), String> {
-        bench.cases += 1;
-        let (our_record, their_record) = bench.records.both(0..size);
-        let (ours, theirs) = bench.segment.both(0..length);
-        let got = write_with_table(&bench.table, ours, place, our_record);
-        let wanted = write_answer(place, segment::write(theirs, place, their_record));
-        if wanted.number == 0 {
-            copy_sums(ours, theirs, place);
-        }
-        let what = || format!("strange table, write of {size} at {place}");
-        bench.compare((length, place), got, wanted, what)
+fn strange_write(
+    bench: &mut Bench,
+    length: usize,
+    place: usize,
+    size: usize,
+) -> Result<(), String> {
+    bench.cases += 1;
+    let (our_record, their_record) = bench.records.both(0..size);
+    let (ours, theirs) = bench.segment.both(0..length);
+    let got = ffi::write_with_table(&bench.table, ours, place, our_record);
+    let wanted = write_answer(place, segment::write(theirs, place, their_record));
+    if wanted.number == 0 {
+        copy_sums(ours, theirs, place);
     }
+    let what = || format!("strange table, write of {size} at {place}");
+    bench.compare((length, place), got, wanted, what)
+}
 
-    /// Takes over the sums of the record written at a place.
-    fn copy_sums(ours: &[u8], theirs: &mut [u8], mut place: usize) {
-        loop {
-            let sum = place + 3..place + HEADER;
-            theirs[sum.clone()].copy_from_slice(&ours[sum]);
-            let kind = theirs[place];
-            if kind == segment::FULL || kind == segment::LAST {
-                return;
-            }
-            place += segment::left_in_page(place);
+/// Takes over the sums of the record written at a place.
+fn copy_sums(ours: &[u8], theirs: &mut [u8], mut place: usize) {
+    loop {
+        let sum = place + 3..place + HEADER;
+        theirs[sum.clone()].copy_from_slice(&ours[sum]);
+        let kind = theirs[place];
+        if kind == segment::FULL || kind == segment::LAST {
+            return;
         }
+        place += segment::left_in_page(place);
     }
+}
 
-    fn strange_read(bench: &mut Bench, length: usize, place: usize) -> Result<(), String> {
-        bench.cases += 1;
-        let (ours, _) = bench.segment.both(0..length);
-        let (our_buffer, their_buffer) = bench.buffer.both(0..RECORD_MAX);
-        let got = read_with_table(&bench.table, ours, place, our_buffer);
-        if got.number == 0 {
-            let filled = (got.out[1] as usize).min(RECORD_MAX);
-            their_buffer[..filled].copy_from_slice(&our_buffer[..filled]);
-        }
-        let what = || format!("strange table, read at {place}");
-        bench.compare((length, place), got, got, what)?;
-        match got.beside {
-            false => Ok(()),
-            true => Err(format!("{}: wrote beside out", what())),
-        }
+fn strange_read(bench: &mut Bench, length: usize, place: usize) -> Result<(), String> {
+    bench.cases += 1;
+    let (ours, _) = bench.segment.both(0..length);
+    let (our_buffer, their_buffer) = bench.buffer.both(0..RECORD_MAX);
+    let got = ffi::read_with_table(&bench.table, ours, place, our_buffer);
+    if got.number == 0 {
+        let filled = (got.out[1] as usize).min(RECORD_MAX);
+        their_buffer[..filled].copy_from_slice(&our_buffer[..filled]);
+    }
+    let what = || format!("strange table, read at {place}");
+    bench.compare((length, place), got, got, what)?;
+    match got.beside {
+        false => Ok(()),
+        true => Err(format!("{}: wrote beside out", what())),
     }
 }

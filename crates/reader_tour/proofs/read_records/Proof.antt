@@ -11,7 +11,7 @@ abbrev Inv-loop : tie.InvT-loop
 Inv-loop segment buffer₀ place₀ k₀ buffer place k = length buffer ≡ length buffer₀
 
 abbrev μ-loop : tie.MeasureT-loop
-μ-loop segment buffer₀ place₀ k₀ buffer place k = 9 - k
+μ-loop segment buffer₀ place₀ k₀ buffer place k = 10 - k
 
 opened-requires : tie.Need-opened-requires Inv-loop μ-loop
 opened-requires c κs = search needs

@@ -11,7 +11,7 @@ abbrev Inv-loop : tie.InvT-loop
 Inv-loop segment₀ bytes lengths place₀ k₀ segment place k = length segment ≡ length segment₀
 
 abbrev μ-loop : tie.MeasureT-loop
-μ-loop segment₀ bytes lengths place₀ k₀ segment place k = 7 - k
+μ-loop segment₀ bytes lengths place₀ k₀ segment place k = 8 - k
 
 loop-holds : tie.Need-loop-holds Inv-loop μ-loop
 loop-holds c = search needs

@@ -2,12 +2,10 @@
 //! on the real segments of a folder; nonzero on the first difference, with the seed and the case.
 
 use compare::rng::Rng;
-use compare::{checksums, fixtures, Outcome};
+use compare::{bodies, checksums, fixtures, segments, Group, Outcome};
 use std::io::Write;
 use std::path::Path;
 use std::process::ExitCode;
-
-type Group = (&'static str, fn(&mut Rng) -> Outcome);
 
 fn main() -> ExitCode {
     let words: Vec<String> = std::env::args().skip(1).collect();
@@ -51,26 +49,10 @@ fn run(name: &str, group: impl FnOnce() -> Outcome) -> Outcome {
 }
 
 fn groups() -> Vec<Group> {
-    let groups: Vec<Group> = vec![
-        ("checksum, published data", |_| {
-            checksums::compare_published()
-        }),
-        ("checksum, the table", |_| checksums::compare_table()),
-        ("checksum, short data", checksums::compare_short),
-        ("checksum, long data", checksums::compare_long),
-        (
-            "checksum, strange tables",
-            checksums::compare_strange_tables,
-        ),
-    ];
-    #[cfg(feature = "segments")]
-    let groups = [groups, compare::segments::groups()].concat();
-    #[cfg(feature = "bodies")]
-    let groups = [groups, compare::bodies::groups()].concat();
-    groups
+    [checksums::groups(), segments::groups(), bodies::groups()].concat()
 }
 
-/// Each real segment through the calls that the archive has.
+/// Each real segment through the calls.
 fn compare_fixtures(rng: &mut Rng, folder: &Path) -> Outcome {
     let mut cases = 0;
     for fixture in fixtures::read_folder(folder)? {
@@ -81,10 +63,8 @@ fn compare_fixtures(rng: &mut Rng, folder: &Path) -> Outcome {
 }
 
 fn compare_file(rng: &mut Rng, bytes: &[u8]) -> Outcome {
-    let cases = checksums::compare_data(rng, bytes)?;
-    #[cfg(feature = "segments")]
-    let cases = cases + compare::segments::compare_file(rng, bytes)?;
-    #[cfg(feature = "bodies")]
-    let cases = cases + compare::bodies::compare_file(rng, bytes)?;
-    Ok(cases)
+    let sums = checksums::compare_data(rng, bytes)?;
+    let reads = segments::compare_file(rng, bytes)?;
+    let bodies = bodies::compare_file(rng, bytes)?;
+    Ok(sums + reads + bodies)
 }
