@@ -7,13 +7,14 @@ use native.Mathlib.Omega.{arith}
 use borrow.Author.Tests.{lt-ltb, le-ltb, lt-leb, le-leb, eq-eqb, ne-eqb, eqb-true, eqb-false, ltb-true, ltb-false}
 use lib.Dec.{eqb, ltb}
 use lib.ListN.{length}
-use Rattle.wal_types.specs.Terms.{offset}
-use Rattle.wal_types.specs.declared.Refusal.the-variants.{BadPlace, Short}
+use Rattle.wal_types.specs.declared.Refusal.{Refusal}
+use Rattle.wal_types.specs.declared.Refusal.the-variants.{BadPlace}
 use Rattle.body_format.specs.declared.EntryAnswer.the-variants.{End, Refused}
+use Rattle.body_format.specs.Fields.{fault}
 use Rattle.body_format.specs.Entries.{Kind, known, hasRows, firstAt}
 use Rattle.body_format.specs.Reading.{badPlace, entryOrEnd, firstEntry, entryKnown}
-use Rattle.body_format.specs.Laws.Fields.{fixed-got, fixed-short}
 use Rattle.body.specs.Answers.{rowPlace}
+use Rattle.body.proofs.Reading.{first-all}
 
 module _ (k : Kind) (s : List ℕ) (p : ℕ) where
   -- ---- in any body
@@ -66,11 +67,8 @@ module _ (k : Kind) (s : List ℕ) (p : ℕ) where
       unfolding entryOrEnd
       small-end e h = sym (first-here e some ∙ rw (eq-eqb (length s) 1 h, eq-eqb 1 (length s) (sym h)))
 
-      pub short-id : p ≡ 1 → (length s ≡ 1 → ⊥) → length s < 9 → Refused (Short (offset 1)) ≡ entryKnown (known k) s p
-      short-id e h l = sym (first-here e some ∙ rw (ne-eqb (length s) 1 h, fixed-short s 1 (omega arith)))
-
-      pub short-time : p ≡ 1 → 9 ≤ length s → Refused (Short (offset 9)) ≡ entryKnown (known k) s p
-      short-time e l = sym (first-here e some ∙ rw (ne-eqb (length s) 1 (λ h. omega arith), fixed-got s 1 (omega arith), fixed-short s 9 (omega arith)))
+      pub small-fault : p ≡ 1 → {why : Refusal} → firstAt true s ≡ fault why → Refused why ≡ entryKnown (known k) s p
+      small-fault e f = sym (first-here e some ∙ ap (firstEntry k s) f)
 
     -- a body that has all of its first id and timestamp
     module _ (large : 17 ≤ length s) where
@@ -94,6 +92,5 @@ module _ (k : Kind) (s : List ℕ) (p : ℕ) where
         where
           go : (t : Bool) → eqb p 1 ≡ t → 17 ≤ cond t 17 p → cond t 17 p ≤ length s → entryKnown (known k) s p ≡ entryOrEnd k s (cond t 17 p)
           go true e a b =
-              first-here (eqb-true p 1 e) (omega arith)
-              ∙ rw (ne-eqb (length s) 1 (λ h. omega arith), fixed-got s 1 (omega arith), fixed-got s 9 (omega arith))
+              first-here (eqb-true p 1 e) (omega arith) ∙ ap (firstEntry k s) (first-all s (λ h. omega arith) large)
           go false e a b = rw (good-later a b, e)

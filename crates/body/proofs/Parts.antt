@@ -1,6 +1,6 @@
 -- What each entry's fields come to, fault by fault, in the code's forms.
 use mathlib.Core.Bool.{Bool, true, false}
-use mathlib.Core.Path.{_≡_, ap}
+use mathlib.Core.Path.{_≡_}
 use mathlib.Core.List.{List}
 use Prim.Native.Nat.{ℕ}
 use lib.IntN.{ℤ, pos}
@@ -13,11 +13,10 @@ use Rattle.body_format.specs.declared.EntryAnswer.the-variants.{Found, Refused}
 use Rattle.body_format.specs.Fields.{got, fault, Texts, fixedAt, uvarintAt, varintAt, byteAt, textListAt}
 use Rattle.body_format.specs.Entries.{Row, typeByte, rowAt, seriesAt, sampleAt, tombstoneAt, exemplarAt, metadataAt, entryAt}
 use Rattle.body_format.specs.Reading.{answerEntry}
-use Rattle.body.specs.declared.rows.Base.{Base}
 use Rattle.body.specs.declared.rows.RowRead.the-variants as row
 use Rattle.body.specs.declared.strings.TextListRead.{TextListRead}
 use Rattle.body.specs.declared.strings.TextListRead.the-variants as list
-use Rattle.body.specs.Answers.{rowsKind, base, baseIn, rowRead, rowGot, labelsRead}
+use Rattle.body.specs.Answers.{rowsKind, BaseIn, rowRead, rowGot, labelsRead}
 use Rattle.body.proofs.Forms.{never, list-got, list-fault}
 
 module _ (s : List ℕ) (p : ℕ) where
@@ -35,11 +34,11 @@ module _ (s : List ℕ) (p : ℕ) where
   unfolding rowAt
   row-3 h i j = rw (h, i, j)
 
-  pub row-all : {d q e r v next first : ℕ} {from : SeriesId}
-      → uvarintAt s p ≡ got d q → uvarintAt s q ≡ got e r → fixedAt s r ≡ got v next → base from first ≡ baseIn s
-      → rowGot from first d e v next ≡ rowRead (rowAt s p)
+  pub row-all : {d q e r v next : ℕ} {id : SeriesId} {time : Timestamp}
+      → uvarintAt s p ≡ got d q → uvarintAt s q ≡ got e r → fixedAt s r ≡ got v next → BaseIn s id time
+      → rowGot id time d e v next ≡ rowRead (rowAt s p)
   unfolding rowAt
-  row-all {d} {e = e} {v = v} {next = next} h i j b = rw (h, i, j) (ap (λ (w : Base). rowGot (w .id) (w .time) d e v next) b)
+  row-all h i j b = rw (h, i, j, b .same-id, b .same-time)
 
   -- type 1
   pub series-1 : {why : Refusal} → fixedAt s p ≡ fault why → Refused why ≡ answerEntry (seriesAt s p)

@@ -221,14 +221,15 @@ count-done k s first at count i l = go (i .fuel) (i .enough) (i .same)
 
 -- ---- where the entries begin
 
+-- rows: the first id ends too early, or the first timestamp, or both are there
 module _ (s : List ℕ) (h : length s ≡ 1 → ⊥) where
-  pub first-1 : length s < 9 → Fault (Short (offset 1)) ≡ placeRead (firstAt true s)
+  pub first-1 : length s < 9 → firstAt true s ≡ fault (Short (offset 1))
   first-1 l = rw (ne-eqb (length s) 1 h, fixed-short s 1 (omega arith))
 
-  pub first-2 : 9 ≤ length s → length s < 17 → Fault (Short (offset 9)) ≡ placeRead (firstAt true s)
+  pub first-2 : 9 ≤ length s → length s < 17 → firstAt true s ≡ fault (Short (offset 9))
   first-2 a b = rw (ne-eqb (length s) 1 h, fixed-got s 1 (omega arith), fixed-short s 9 (omega arith))
 
-  pub first-all : 17 ≤ length s → At 17 ≡ placeRead (firstAt true s)
+  pub first-all : 17 ≤ length s → firstAt true s ≡ got 17 17
   first-all l = rw (ne-eqb (length s) 1 h, fixed-got s 1 (omega arith), fixed-got s 9 (omega arith))
 
 -- all of them

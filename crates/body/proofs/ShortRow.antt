@@ -9,11 +9,12 @@ use lib.Dec.{leb, ltb}
 use lib.ListN.{length, getD, drop}
 use Rattle.big_endian.specs.Fixed.{readBe8}
 use Rattle.wal_types.specs.declared.SeriesId.{SeriesId}
+use Rattle.wal_types.specs.declared.Timestamp.{Timestamp}
 use Rattle.body_format.specs.Fields.{got, uvarintAt, fixedAt}
 use Rattle.body_format.specs.Entries.{rowAt}
 use Rattle.body_format.specs.Laws.Fields.{place-same, fixed-got}
 use Rattle.body.specs.declared.fields.Place.the-variants.{At}
-use Rattle.body.specs.Answers.{isShortRow, endOf, base, baseIn, rowGot, rowRead}
+use Rattle.body.specs.Answers.{isShortRow, endOf, BaseIn, rowGot, rowRead}
 use Rattle.body.proofs.Forms.{never}
 use Rattle.body.proofs.Parts.{row-all}
 use Rattle.body.proofs.Reading.{uvarint-one}
@@ -59,6 +60,6 @@ module _ (s : List ℕ) (p : ℕ) (e : isShortRow s p ≡ true) where
   unfolding rowAt
   short-end = rw (short-id, short-time, short-bits)
 
-  pub short-read : {first bits : ℕ} {from : SeriesId} → bits ≡ readBe8 (drop (p + 2) s) → base from first ≡ baseIn s
-      → rowGot from first (getD s p 0) (getD s (p + 1) 0) bits (p + 10) ≡ rowRead (rowAt s p)
+  pub short-read : {bits : ℕ} {id : SeriesId} {time : Timestamp} → bits ≡ readBe8 (drop (p + 2) s) → BaseIn s id time
+      → rowGot id time (getD s p 0) (getD s (p + 1) 0) bits (p + 10) ≡ rowRead (rowAt s p)
   short-read v b = rw v (row-all s p short-id short-time short-bits b)

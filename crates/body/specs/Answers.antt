@@ -1,5 +1,6 @@
 -- The definitions' readings in the forms that the code hands from one function to the next: where a string's bytes do not matter, they are left out.
 -- Assumes nothing.
+use mathlib.Core.Path.{_≡_}
 use mathlib.Core.Bool.{Bool, true, false, cond, _&&_}
 use mathlib.Core.List.{List, [], _∷_}
 use Prim.Native.Nat.{ℕ, _+_, _-_}
@@ -8,8 +9,9 @@ use lib.Dec.{eqb, leb, ltb}
 use lib.ListN.{length, getD, drop}
 use Rattle.wal_types.specs.declared.Refusal.the-variants.{UnknownType, EmptyBody}
 use Rattle.wal_types.specs.declared.SeriesId.{SeriesId}
+use Rattle.wal_types.specs.declared.Timestamp.{Timestamp}
 use Rattle.wal_types.specs.Terms.{seriesId, timestamp}
-use Rattle.wal_types.specs.Deltas.{plus, fromBits}
+use Rattle.wal_types.specs.Deltas.{plus, toBits, fromBits}
 use Rattle.big_endian.specs.Fixed.{readBe8}
 use Rattle.body_format.specs.Fields.{Field, got, fault, Text, Texts, textListAt}
 use Rattle.body_format.specs.Entries.{Kind, series, samples, tombstones, exemplars, metadata, Known, known, unknown, kindOf, Row}
@@ -29,7 +31,6 @@ use Rattle.body.specs.declared.strings.TextListRead.{TextListRead}
 use Rattle.body.specs.declared.strings.TextListRead.the-variants as list
 use Rattle.body.specs.declared.fields.Place.{Place}
 use Rattle.body.specs.declared.fields.Place.the-variants.{At, Fault}
-use Rattle.body.specs.declared.rows.Base.{Base}
 use Rattle.body.specs.declared.rows.RowRead.{RowRead}
 use Rattle.body.specs.declared.rows.RowRead.the-variants as row
 
@@ -102,20 +103,18 @@ onward (Fault why) f = Fault why
 
 -- ---- rows and places
 
-abbrev pub base : SeriesId → ℕ → Base
-base id time = record { id = id; time = time }
-
--- bytes 1 to 16
-abbrev pub baseIn : List ℕ → Base
-baseIn s = base (seriesId (readBe8 (drop 1 s))) (readBe8 (drop 9 s))
+-- the first id and the first timestamp are those in bytes 1 to 16
+pub record BaseIn (s : List ℕ) (id : SeriesId) (time : Timestamp) : Type 0 where
+  pub same-id : id .0 ≡ readBe8 (drop 1 s)
+  pub same-time : toBits (time .0) ≡ readBe8 (drop 9 s)
 
 abbrev pub rowRead : Field Row → RowRead
 rowRead (got r next) = row.Got (seriesId (r .id)) (timestamp (r .time)) (r .bits) next
 rowRead (fault why) = row.Fault why
 
 -- a row whose deltas are d and e
-abbrev pub rowGot : SeriesId → ℕ → ℕ → ℕ → ℕ → ℕ → RowRead
-rowGot id time d e bits next = row.Got (seriesId (plus (id .0) d)) (timestamp (fromBits (plus time e))) bits next
+abbrev pub rowGot : SeriesId → Timestamp → ℕ → ℕ → ℕ → ℕ → RowRead
+rowGot id time d e bits next = row.Got (seriesId (plus (id .0) d)) (timestamp (fromBits (plus (toBits (time .0)) e))) bits next
 
 -- ten bytes, of which the first two are a delta each
 unfoldable pub isShortRow : List ℕ → ℕ → Bool

@@ -2,32 +2,14 @@
 use crate::ends::entry_end;
 use crate::fields::Place;
 use crate::kinds::BodyKind;
+use crate::rows::rows_begin;
 use body_format::CheckAnswer;
-use wal_types::Offset;
-use wal_types::Refusal;
 ghost use mathlib.Core.Path.{_≡_};
-ghost use mathlib.Core.Bool.{true};
 ghost use Prim.Native.Nat.{_≤_, _<_};
 ghost use lib.ListN.{length};
 ghost use Rattle.body_format.specs.Entries.{hasRows, firstAt, entriesFrom};
 ghost use Rattle.body_format.specs.Reading.{checkFields};
 ghost use Rattle.body.specs.Answers.{kindIn, placeRead};
-
-// Rows begin behind the first id and the first timestamp, unless there is nothing behind the type byte.
-fn rows_begin(body: &[u8]) -> Place
-    ensures { λ r. ⌜ r ≡ placeRead (firstAt true (now (body .entry))) ⌝ }
-{
-    if body.len() == 1 {
-        return Place::At(1);
-    }
-    if body.len() < 9 {
-        return Place::Fault(Refusal::Short(Offset(1)));
-    }
-    if body.len() < 17 {
-        return Place::Fault(Refusal::Short(Offset(9)));
-    }
-    Place::At(17)
-}
 
 // Where the entries of a type begin.
 pub(crate) fn entries_begin(body: &[u8], kind: BodyKind) -> Place

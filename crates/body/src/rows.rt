@@ -1,5 +1,6 @@
 // Types 2 and 4: rows, behind a first id and a first timestamp.
 use crate::fields::NumberRead;
+use crate::fields::Place;
 use crate::fields::fixed_at;
 use crate::fields::uvarint_at;
 use crate::strings::TextListRead;
@@ -12,13 +13,14 @@ use wal_types::SeriesId;
 use wal_types::Timestamp;
 use wal_types::id_plus;
 use wal_types::time_of_bits;
+use wal_types::time_plus;
 ghost use mathlib.Core.Path.{_≡_};
-ghost use mathlib.Core.Bool.{Bool};
+ghost use mathlib.Core.Bool.{Bool, true};
 ghost use Prim.Native.Nat.{_<_};
 ghost use lib.ListN.{length};
-ghost use Rattle.body_format.specs.Entries.{known, typeByte, rowAt, entryAt};
+ghost use Rattle.body_format.specs.Entries.{known, typeByte, firstAt, rowAt, entryAt};
 ghost use Rattle.body_format.specs.Reading.{answerEntry, entryKnown};
-ghost use Rattle.body.specs.Answers.{rowsKind, base, baseIn, rowRead, rowGot, isShortRow, labelsRead, rowPlace};
+ghost use Rattle.body.specs.Answers.{rowsKind, BaseIn, rowRead, rowGot, isShortRow, labelsRead, rowPlace, placeRead};
 
 // The first place behind the first id and the first timestamp.
 const ROWS: usize = 17;
@@ -26,10 +28,10 @@ const ROWS: usize = 17;
 // The bytes of a row whose deltas have one byte each.
 pub(crate) const SHORT_ROW: usize = 10;
 
-// The first id, and the 64 bits of the first timestamp.
+// The first id and the first timestamp.
 struct Base {
     pub id: SeriesId,
-    pub time: u64,
+    pub time: Timestamp,
 }
 
 // A row's id, time and value, and the place after it.
@@ -45,13 +47,13 @@ enum RowRead {
 
 // Bytes 1 to 16; 0 where they are not there.
 fn base_of(body: &[u8]) -> Base
-    ensures { λ r. ⌜ r ≡ baseIn (now (body .entry)) ⌝ }
+    ensures { λ r. ⌜ BaseIn (now (body .entry)) (r .id) (r .time) ⌝ }
 {
     let id = big_endian::get_be8(body, 1);
     let time = big_endian::get_be8(body, 9);
     Base {
         id: SeriesId(id),
-        time,
+        time: time_of_bits(time),
     }
 }
 
@@ -75,7 +77,7 @@ pub(crate) fn is_short_row(body: &[u8], at: usize) -> bool
 // narrow stores, which stalls.
 fn row_of(
     first_id: SeriesId,
-    first_time: u64,
+    first_time: Timestamp,
     from_id: u64,
     from_time: u64,
     bits: u64,
@@ -83,18 +85,17 @@ fn row_of(
 ) -> RowRead
     ensures { λ r. ⌜ r ≡ rowGot «first_id» «first_time» «from_id» «from_time» bits next ⌝ }
 {
-    let sum = std::num::wrapping_add_u64(first_time, from_time);
     RowRead::Got {
         id: id_plus(first_id, from_id),
-        time: time_of_bits(sum),
+        time: time_plus(first_time, from_time),
         bits,
         next,
     }
 }
 
 // Id delta, timestamp delta and value, field by field.
-fn long_row_at(body: &[u8], first_id: SeriesId, first_time: u64, at: usize) -> RowRead
-    requires { ⌜ base «first_id» «first_time» ≡ baseIn (now body) ⌝ }
+fn long_row_at(body: &[u8], first_id: SeriesId, first_time: Timestamp, at: usize) -> RowRead
+    requires { ⌜ BaseIn (now body) «first_id» «first_time» ⌝ }
     ensures { λ r. ⌜ r ≡ rowRead (rowAt (now (body .entry)) at) ⌝ }
 {
     match uvarint_at(body, at) {
@@ -118,8 +119,8 @@ fn long_row_at(body: &[u8], first_id: SeriesId, first_time: u64, at: usize) -> R
 }
 
 // What types 2 and 4 share: a row.
-fn row_at(body: &[u8], first_id: SeriesId, first_time: u64, at: usize) -> RowRead
-    requires { ⌜ base «first_id» «first_time» ≡ baseIn (now body) ⌝ }
+fn row_at(body: &[u8], first_id: SeriesId, first_time: Timestamp, at: usize) -> RowRead
+    requires { ⌜ BaseIn (now body) «first_id» «first_time» ⌝ }
     ensures { λ r. ⌜ r ≡ rowRead (rowAt (now (body .entry)) at) ⌝ }
 {
     if is_short_row(body, at) {
@@ -160,10 +161,10 @@ fn row_entry_at(
     body: &[u8],
     labelled: bool,
     first_id: SeriesId,
-    first_time: u64,
+    first_time: Timestamp,
     at: usize,
 ) -> EntryAnswer
-    requires { ⌜ base «first_id» «first_time» ≡ baseIn (now body) ⌝ }
+    requires { ⌜ BaseIn (now body) «first_id» «first_time» ⌝ }
     ensures { λ r. ⌜ r ≡ answerEntry (entryAt (rowsKind labelled) (now (body .entry)) at) ⌝ }
 {
     match row_at(body, first_id, first_time, at) {
@@ -189,7 +190,24 @@ fn row_entry_at(
     }
 }
 
-// A body that ends before its rows: place 1 is its end where nothing stands behind the type byte, and no other place is good.
+// Rows begin behind the first id and the first timestamp, unless there is nothing behind the type byte.
+pub(crate) fn rows_begin(body: &[u8]) -> Place
+    ensures { λ r. ⌜ r ≡ placeRead (firstAt true (now (body .entry))) ⌝ }
+{
+    if body.len() == 1 {
+        return Place::At(1);
+    }
+    if body.len() < 9 {
+        return Place::Fault(Refusal::Short(Offset(1)));
+    }
+    if body.len() < ROWS {
+        return Place::Fault(Refusal::Short(Offset(9)));
+    }
+    Place::At(ROWS)
+}
+
+// A body that ends before its rows: place 1 is its end where nothing stands behind the type byte, and no other place is good. It asks for the lengths
+// that `rows_begin` asks for: to take that one's answer apart again made reading an entry slower.
 fn no_row(body: &[u8], at: usize) -> EntryAnswer
     requires { ⌜ (0 < length (now body)) × (length (now body) < 17) ⌝ }
     ensures { λ r. ⌜ ((labelled : Bool) → r ≡ entryKnown (known (rowsKind labelled)) (now (body .entry)) at) ⌝ }

@@ -20,7 +20,8 @@ use Rattle.body_format.specs.Laws.Strings.{length-series, length-exemplar, leng
 use Rattle.body_builder.specs.declared.Added.the-variants.{Next, Refused}
 use Rattle.body_builder.specs.declared.builder.Gate.{Gate}
 use Rattle.body_builder.specs.declared.builder.Gate.the-variants.{Open, Shut}
-use Rattle.body_builder.specs.Sizes.{addedOf, gateFor, fitting, decided, listSize}
+use Rattle.body_builder.specs.Answers.{addedOf}
+use Rattle.body_builder.specs.Sizes.{gateFor, fitting, decided, listSize}
 use Rattle.body_builder.proofs.Putting.{Put}
 use Rattle.body_builder.proofs.Sizing.{Sized, exact, above, more, good-sum, list-sized}
 

@@ -14,8 +14,6 @@ use Rattle.varint.specs.Varint.{varint}
 use Rattle.big_endian.specs.Fixed.{be8, readBe8}
 use Rattle.body_format.specs.Entries.{Known, known, unknown}
 use Rattle.body_format.specs.Building.{Outcome, used, refused, badState}
-use Rattle.body_builder.specs.declared.Added.{Added}
-use Rattle.body_builder.specs.declared.Added.the-variants.{Next, Refused}
 use Rattle.body_builder.specs.declared.builder.Gate.{Gate}
 use Rattle.body_builder.specs.declared.builder.Gate.the-variants.{Open, Shut}
 use Rattle.body_builder.specs.declared.builder.Deltas.{Deltas}
@@ -24,11 +22,6 @@ use Rattle.body_builder.specs.declared.builder.Deltas.{Deltas}
 abbrev pub isKnown : Known → Bool
 isKnown (known k) = true
 isKnown unknown = false
-
--- what an outcome hands back of a body of type t
-abbrev pub addedOf : ℕ → Outcome → Added
-addedOf t (used n) = Next (record { kind = t; used = offset n })
-addedOf t (refused why) = Refused why
 
 abbrev pub gateFor : Outcome → Gate
 gateFor (used n) = Open

@@ -6,16 +6,22 @@ use wal_types::SeriesId;
 use wal_types::Timestamp;
 use wal_types::id_delta;
 use wal_types::time_bits;
+use wal_types::time_delta;
+use wal_types::time_of_bits;
 ghost use mathlib.Core.Path.{_≡_};
-ghost use mathlib.Core.Bool.{_||_};
 ghost use Prim.Native.Nat.{_+_, _≤_, _<_};
-ghost use lib.Dec.{eqb};
 ghost use lib.ListN.{length};
 ghost use lib.Seq.{sets};
 ghost use Rattle.wal_types.specs.Deltas.{toBits};
 ghost use Rattle.body_format.specs.Building.{badState, cutTexts, total, rowBytes, entryBytes};
-ghost use Rattle.body_format.specs.Entries.{kindOf, seriesEntry, tombstoneEntry, metadataEntry};
+ghost use Rattle.body_format.specs.Entries.{kindOf, rowsKnown, seriesEntry, tombstoneEntry, metadataEntry};
 ghost use Rattle.body_builder.specs.Sizes.{isKnown, decided, gateFor, deltasIn, rowSize, rowTail, tombstoneSize};
+
+// The longest body: it has to fit in a record.
+pub(crate) const BODY_LIMIT: usize = 65536;
+
+// The bytes of the first row: the first id and timestamp, two deltas of one byte each, and the value.
+const FIRST_ROW: usize = 26;
 
 // Whether an entry may be added, or why not.
 pub(crate) enum Gate {
@@ -43,9 +49,9 @@ pub(crate) fn is_known(kind: u8) -> bool
     }
 }
 
-// Types 2 and 4.
+// The types with rows, 2 and 4.
 fn is_row_type(kind: u8) -> bool
-    ensures { λ r. ⌜ r ≡ (eqb kind 2 || eqb kind 4) ⌝ }
+    ensures { λ r. ⌜ r ≡ rowsKnown (kindOf kind) ⌝ }
 {
     if kind == 2 {
         return true;
@@ -88,10 +94,10 @@ pub(crate) fn admit(buffer: &[u8], kind: u8, used: usize, want: u8, bad: bool, s
     if bad {
         return Gate::Shut(Refusal::BadList);
     }
-    if 65536 < used {
+    if BODY_LIMIT < used {
         return Gate::Shut(Refusal::TooLong(Offset(used)));
     }
-    if 65536 - used < size {
+    if BODY_LIMIT - used < size {
         return Gate::Shut(Refusal::TooLong(Offset(used)));
     }
     if buffer.len() - used < size {
@@ -104,14 +110,11 @@ pub(crate) fn admit(buffer: &[u8], kind: u8, used: usize, want: u8, bad: bool, s
 pub(crate) fn deltas_of(buffer: &[u8], id: SeriesId, time: Timestamp) -> Deltas
     ensures { λ r. ⌜ r ≡ deltasIn (now (buffer .entry)) (id .0) (toBits (time .0)) ⌝ }
 {
-    let first_id = big_endian::get_be8(buffer, 1);
-    let first_time = big_endian::get_be8(buffer, 9);
-    let from_id = id_delta(id, SeriesId(first_id));
-    let bits = time_bits(time);
-    let from_time = std::num::wrapping_sub_u64(bits, first_time);
+    let first_id = SeriesId(big_endian::get_be8(buffer, 1));
+    let first_time = time_of_bits(big_endian::get_be8(buffer, 9));
     Deltas {
-        id: from_id,
-        time: from_time,
+        id: id_delta(id, first_id),
+        time: time_delta(time, first_time),
     }
 }
 
@@ -120,7 +123,7 @@ pub(crate) fn row_size(used: usize, row: Deltas) -> usize
     ensures { λ r. ⌜ (r ≡ rowSize used (row .id) (row .time)) × (r ≤ 28) ⌝ }
 {
     if used == 1 {
-        return 26;
+        return FIRST_ROW;
     }
     let first = uvarint::uvarint_len(row.id);
     let second = uvarint::uvarint_len(row.time);
@@ -197,6 +200,7 @@ pub(crate) fn tombstone_size(min: Timestamp, max: Timestamp) -> usize
     8 + both
 }
 
+// A tombstone at a place that has room for it; the place after it.
 pub(crate) fn put_tombstone(
     buffer: &mut [u8],
     at: usize,
@@ -213,6 +217,7 @@ pub(crate) fn put_tombstone(
     varint::put_varint(buffer, third, max.0)
 }
 
+// A series, likewise.
 pub(crate) fn put_series(
     buffer: &mut [u8],
     at: usize,
@@ -228,6 +233,7 @@ pub(crate) fn put_series(
     put_list(buffer, list, strings, lengths)
 }
 
+// A metadata entry, likewise.
 pub(crate) fn put_metadata(
     buffer: &mut [u8],
     at: usize,

@@ -1,4 +1,5 @@
 // Strings as they are lent for building: one slice of bytes, and one of lengths.
+use crate::builder::BODY_LIMIT;
 ghost use mathlib.Core.Path.{_≡_};
 ghost use Prim.Native.Nat.{_+_, _*_, _≤_};
 ghost use lib.Dec.{eqb};
@@ -38,10 +39,10 @@ fn add_up(lengths: &[u64], size: usize) -> bool
 pub(crate) fn list_size(strings: &[u8], lengths: &[u64]) -> usize
     ensures { λ r. ⌜ (r ≡ listSize (length (now (strings .entry))) (now (lengths .entry))) × (r ≤ 1000000) ⌝ }
 {
-    if 65536 < lengths.len() {
+    if BODY_LIMIT < lengths.len() {
         return 65537;
     }
-    if 65536 < strings.len() {
+    if BODY_LIMIT < strings.len() {
         return 65537;
     }
     let pairs = (lengths.len() / 2) as u64;

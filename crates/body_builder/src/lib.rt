@@ -22,7 +22,7 @@ use wal_types::SeriesId;
 use wal_types::Timestamp;
 ghost use mathlib.Core.Path.{_≡_};
 ghost use Rattle.body_format.specs.Calls.{starter, builder, addSeries, addSample, addTombstone, addExemplar, addMetadata};
-ghost use Rattle.body_builder.specs.Sizes.{addedOf};
+ghost use Rattle.body_builder.specs.Answers.{addedOf};
 
 // The state of a body that is being built in a lent buffer: its type, and the bytes used.
 pub struct Body {

@@ -13,7 +13,7 @@ use Rattle.wal_types.specs.Deltas.{minus, toBits}
 use Rattle.uvarint.specs.Uvarint.{uvarint}
 use Rattle.varint.specs.Varint.{varint}
 use Rattle.big_endian.specs.Fixed.{be8, readBe8}
-use Rattle.body_format.specs.Entries.{typeByte, Known, known, unknown, kindOf, Entry, seriesEntry, sampleEntry, tombstoneEntry, exemplarEntry, metadataEntry, kindFor}
+use Rattle.body_format.specs.Entries.{typeByte, Known, known, unknown, kindOf, rowsKnown, Entry, seriesEntry, sampleEntry, tombstoneEntry, exemplarEntry, metadataEntry, kindFor}
 
 -- ---- the bytes of an entry
 
@@ -87,7 +87,7 @@ startBytes (refused why) b t = b
 -- byte is not the type.
 unfoldable pub badState : List ℕ → ℕ → ℕ → Bool
 badState b t u =
-    eqb u 0 || (ltb (length b) u || (((eqb t 2 || eqb t 4) && (leb 2 u && leb u 16)) || not (eqb (getD b 0 0) t)))
+    eqb u 0 || (ltb (length b) u || ((rowsKnown (kindOf t) && (leb 2 u && leb u 16)) || not (eqb (getD b 0 0) t)))
 
 -- adding an entry to the state (t, u) of a body in buffer b, `bad` if its list of strings is: BadPlace, WrongKind, BadList, TooLong, NoRoom
 unfoldable pub add : List ℕ → ℕ → ℕ → Entry → Bool → Outcome

@@ -44,6 +44,11 @@ hasRows tombstones = false
 hasRows exemplars = true
 hasRows metadata = false
 
+-- whether a byte stands for such a type
+abbrev pub rowsKnown : Known → Bool
+rowsKnown (known k) = hasRows k
+rowsKnown unknown = false
+
 -- ---- entries
 
 -- ids and values are numbers below 2^64, times are signed, a metric type is a byte, and a string is a list of bytes

@@ -1,4 +1,4 @@
-// What reading a record body answers. The meaning of a body is in specs/; the code that builds and reads is the crate `body`.
+// What reading a record body answers. The meaning of a body is in specs/; the crate `body` reads one, and `body_builder` builds one.
 use wal_types::Offset;
 use wal_types::Refusal;
 use wal_types::SeriesId;

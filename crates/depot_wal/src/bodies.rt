@@ -3,7 +3,7 @@ ghost use mathlib.Core.Path.{_≡_};
 ghost use Rattle.body_format.specs.Reading.{checkBody, readEntry, readString};
 ghost use Rattle.body_format.specs.Calls.{starter, builder, addSeries, addSample, addTombstone, addExemplar, addMetadata};
 ghost use Rattle.body_format.specs.declared.EntryAnswer.the-variants.{Found as «EntryFound»};
-ghost use Rattle.body_builder.specs.Sizes.{addedOf};
+ghost use Rattle.body_builder.specs.Answers.{addedOf};
 ghost use Rattle.depot_wal.specs.Bodies.{addedCode, addedOut, checkCode, checkOut, entryCode, entryOut, stringCode, stringOut};
 use body_builder::Added;
 use body_builder::Body;

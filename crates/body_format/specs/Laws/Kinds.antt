@@ -6,7 +6,7 @@ use Prim.Native.Nat.{ℕ}
 use native.Mathlib.Omega.{arith}
 use borrow.Author.Tests.{ne-eqb, eqb-true}
 use lib.Dec.{eqb}
-use Rattle.body_format.specs.Entries.{Kind, series, samples, tombstones, exemplars, metadata, typeByte, known, unknown, kindOf}
+use Rattle.body_format.specs.Entries.{Kind, series, samples, tombstones, exemplars, metadata, typeByte, known, unknown, kindOf, rowsKnown}
 
 -- each type's own byte
 pub kind-known : (k : Kind) → kindOf (typeByte k) ≡ known k
@@ -21,6 +21,21 @@ kind-known metadata = refl
 pub kind-unknown : (b : ℕ) → (b ≡ 1 → ⊥) → (b ≡ 2 → ⊥) → (b ≡ 3 → ⊥) → (b ≡ 4 → ⊥) → (b ≡ 6 → ⊥) → kindOf b ≡ unknown
 unfolding kindOf
 kind-unknown b h1 h2 h3 h4 h6 = rw (ne-eqb b 1 h1, ne-eqb b 2 h2, ne-eqb b 3 h3, ne-eqb b 4 h4, ne-eqb b 6 h6)
+
+-- of the bytes other than 2, just 4 stands for a type with rows
+pub rows-by-four : (b : ℕ) → (b ≡ 2 → ⊥) → eqb b 4 ≡ rowsKnown (kindOf b)
+unfolding kindOf
+rows-by-four b h = rw (ne-eqb b 2 h, kindOf) (go (eqb b 1) (eqb b 3) (eqb b 4) (eqb b 6) refl refl refl)
+  where
+    go : (t1 t3 t4 t6 : Bool) → eqb b 1 ≡ t1 → eqb b 3 ≡ t3 → eqb b 4 ≡ t4
+        → t4 ≡ rowsKnown (cond t1 (known series) (cond t3 (known tombstones) (cond t4 (known exemplars) (cond t6 (known metadata) unknown))))
+    go true t3 false t6 e1 e3 e4 = refl
+    go false true false t6 e1 e3 e4 = refl
+    go false false false true e1 e3 e4 = refl
+    go false false false false e1 e3 e4 = refl
+    go false false true t6 e1 e3 e4 = refl
+    go true t3 true t6 e1 e3 e4 = let z : _≡_ {A = ℕ} 1 4 = cc (eqb-true b 1 e1, eqb-true b 4 e4) in absurd (omega arith)
+    go false true true t6 e1 e3 e4 = let z : _≡_ {A = ℕ} 3 4 = cc (eqb-true b 3 e3, eqb-true b 4 e4) in absurd (omega arith)
 
 -- the byte of a known type
 pub kind-byte : (b : ℕ) (k : Kind) → kindOf b ≡ known k → b ≡ typeByte k

@@ -2,19 +2,16 @@
 use borrow.Author.Needs.{needs}
 use Prim.Native.Nat.{ℕ}
 use lib.IntN.{ℤ}
-use mathlib.Core.Path.{ap, ap₂, _∙_}
+use mathlib.Core.Path.{ap₂}
 use Rattle.wal_types.specs.Terms.{seriesId, timestamp}
-use Rattle.wal_types.specs.Deltas.{plus, fromBits}
 use Rattle.body.specs.declared.rows.RowRead.the-variants as row
 use Rattle.body.proofs.rows.row_of.Statement.{statement}
 use Rattle.body.proofs.rows.row_of.Tie as tie
 
 returns : tie.Need-returns
-unfolding plus
 returns c =
-    let a = c .before .before .before .args in
-    ap₂ (λ (m : ℕ) (n : ℤ). row.Got (seriesId m) (timestamp n) (a .bits) (a .next)) (c .before .id-plus .ensures)
-    (c .time-of-bits .ensures ∙ ap fromBits (c .before .before .wrapping-add-u64 .ensures))
+    let a = c .before .before .args in
+    ap₂ (λ (m : ℕ) (n : ℤ). row.Got (seriesId m) (timestamp n) (a .bits) (a .next)) (c .before .id-plus .ensures) (c .time-plus .ensures)
 
 pub row-of-spec : {M : Type 1} → statement M
-row-of-spec = tie.close (tie.spec (λ c κs. search needs) (λ c κs. search needs) (λ c κs. search needs) returns)
+row-of-spec = tie.close (tie.spec (λ c κs. search needs) (λ c κs. search needs) returns)

@@ -3,8 +3,8 @@ use borrow.Author.Needs.{needs}
 use native.Mathlib.Omega.{arith}
 use Prim.Native.Nat.{ℕ}
 use mathlib.Core.Path.{ap, ap₂, _∙_}
-use Rattle.wal_types.specs.DeltaLaws.{minus-is}
-use Rattle.wal_types.specs.Deltas.{minus}
+use Rattle.wal_types.specs.DeltaLaws.{to-from}
+use Rattle.wal_types.specs.Deltas.{toBits, minus}
 use Rattle.body_builder.specs.declared.builder.Deltas.{Deltas}
 use Rattle.body_builder.proofs.builder.deltas_of.Statement.{statement}
 use Rattle.body_builder.proofs.builder.deltas_of.Tie as tie
@@ -13,10 +13,11 @@ returns : tie.Need-returns
 returns c =
     let a = c .before .before .before .before .before .before .args in
     let deltas : ℕ → ℕ → Deltas = λ i t. record { id = i; time = t } in
-    let i = c .before .before .id-delta .ensures ∙ ap (minus (a .id .0)) (c .before .before .before .before .get-be8 .ensures) in
+    let bits = c .before .before .before .get-be82 in
+    let i = c .before .id-delta .ensures ∙ ap (minus (a .id .0)) (c .before .before .before .before .get-be8 .ensures) in
     let t =
-    minus-is (c .before .time-bits .result) (c .before .before .before .get-be82 .result) _ (omega arith) (omega arith) (omega arith) (c .wrapping-sub-u64 .ensures)
-    ∙ ap₂ minus (c .before .time-bits .ensures) (c .before .before .before .get-be82 .ensures) in
+    c .time-delta .ensures
+    ∙ ap (minus (toBits (a .time .0))) (ap toBits (c .before .before .time-of-bits .ensures) ∙ to-from (bits .result) (omega arith) ∙ bits .ensures) in
     ap₂ deltas i t
 
 pub deltas-of-spec : {M : Type 1} → statement M

@@ -1,13 +1,15 @@
--- `is_row_type` meets its contract.
-use borrow.Author.Tests.{eq-eqb, ne-eqb}
+-- `is_row_type` meets its contract, by the byte.
+use Rattle.body_format.specs.Entries.{kindOf}
+use Rattle.body_format.specs.Laws.Kinds.{rows-by-four}
 use Rattle.body_builder.proofs.builder.is_row_type.Statement.{statement}
 use Rattle.body_builder.proofs.builder.is_row_type.Tie as tie
 
 returns : tie.Need-returns
-returns c = rw (eq-eqb _ _ (c .if1 .taken))
+unfolding kindOf
+returns c = rw (c .if1 .taken)
 
 returns-2 : tie.Need-returns-2
-returns-2 c = rw (ne-eqb _ _ (c .if1 .left))
+returns-2 c = rows-by-four _ (c .if1 .left)
 
 pub is-row-type-spec : {M : Type 1} → statement M
 is-row-type-spec = tie.close (tie.spec returns returns-2)
