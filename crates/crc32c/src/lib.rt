@@ -12,6 +12,9 @@ ghost use Rattle.crc32c_format.specs.Table.{nibbleTable};
 ghost use Rattle.crc32c_format.specs.Lent.{lookUp2, lookUp4, tableStep1, tableStep4, tableStep8, steps, eightsEnd, foursEnd, tableRegister, sumBy};
 ghost use Rattle.crc32c_format.specs.Method.Fold.{onto290, onto130, taps, Folded, Slid, Cleared, Rest};
 
+// From so many bytes on, folding is quicker than a table.
+const LONG: usize = 512;
+
 // ---- bytes as a number, the first lowest
 
 fn load2(s: &[u8], at: usize) -> u16
@@ -193,7 +196,7 @@ fn slide(y: &mut [u8], n: usize)
     }
 }
 
-// No byte is behind the window.
+// The 136 bytes behind the window become zero: `rest` reads that far, and no byte of the message is to come there.
 fn clear(y: &mut [u8])
     requires { ⌜ 426 ≤ length (now y) ⌝ }
     ensures { λ r. ⌜ Cleared onto290 (now (y .entry)) (now (y .exit)) ⌝ }
@@ -257,6 +260,7 @@ fn after_rest(m: &[u8]) -> u32
     requires { ⌜ length (now m) ≡ 290 ⌝ }
     ensures { λ r. ⌜ r ≡ register 0 (now (m .entry)) ⌝ }
 {
+    // 160 bytes behind a window of 130, and 64 that stay zero: `rest_again` reads that far.
     let mut y = [0u8; 354];
     fold_again(&mut y, m, 160);
     let mut r = [0u8; 130];
@@ -298,7 +302,7 @@ fn long(state: u32, m: &[u8]) -> u32
 pub fn update(state: u32, bytes: &[u8]) -> u32
     ensures { λ r. ⌜ r ≡ register state (now (bytes .entry)) ⌝ }
 {
-    if bytes.len() < 512 {
+    if bytes.len() < LONG {
         short(state, bytes)
     } else {
         long(state, bytes)
@@ -318,7 +322,7 @@ fn long_sum(bytes: &[u8]) -> u32
 pub fn checksum(bytes: &[u8]) -> u32
     ensures { λ r. ⌜ r ≡ crc32c (now (bytes .entry)) ⌝ }
 {
-    if bytes.len() < 512 {
+    if bytes.len() < LONG {
         short(0xFFFF_FFFF, bytes) ^ 0xFFFF_FFFF
     } else {
         long_sum(bytes)
@@ -436,7 +440,7 @@ fn sum_by_table(t: &[u32], s: &[u8]) -> u32
 pub fn sum(table: &[u32], bytes: &[u8]) -> u32
     ensures { λ r. ⌜ r ≡ sumBy (now (table .entry)) (now (bytes .entry)) ⌝ }
 {
-    if 512 <= bytes.len() {
+    if LONG <= bytes.len() {
         long_sum(bytes)
     } else if table.len() < 2048 {
         checksum(bytes)
@@ -449,7 +453,7 @@ pub fn sum(table: &[u32], bytes: &[u8]) -> u32
 pub fn checksum_with_table(table: &[u32; 2048], bytes: &[u8]) -> u32
     ensures { λ r. ⌜ r ≡ sumBy (now (table .entry)) (now (bytes .entry)) ⌝ }
 {
-    if 512 <= bytes.len() {
+    if LONG <= bytes.len() {
         long_sum(bytes)
     } else {
         sum_by_table(table, bytes)

@@ -1,4 +1,4 @@
--- How the code computes the checksum: definitions and laws that only the proofs of the crate `crc32c` cite.
+-- How the code computes the checksum: definitions and laws that only the crates `crc32c` and `crc32c_table` cite, in no public contract.
 pub mod Xor
 pub mod Steps
 pub mod Parts

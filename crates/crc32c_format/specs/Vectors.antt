@@ -1,4 +1,4 @@
--- Examples: RFC 3720, appendix B.4, and the usual check value.
+-- Examples: two of RFC 3720's, appendix B.4, and the usual check value. The program `vectors` runs all of them.
 use mathlib.Core.Path.{_≡_, refl}
 use mathlib.Core.List.{[], _∷_}
 use lib.ListN.{replicate}

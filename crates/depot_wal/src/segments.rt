@@ -58,7 +58,10 @@ fn read_and_tell(
     buffer: &mut [u8],
     out: &mut [u64; 3],
 ) -> u32
-    ensures { λ r. ⌜ (r ≡ readCode (reader (lentSum (now (table .entry))) (now (segment .entry)) place (now (buffer .entry)) .answer)) × (now (out .exit) ≡ readOut (reader (lentSum (now (table .entry))) (now (segment .entry)) place (now (buffer .entry)) .answer)) × (now (buffer .exit) ≡ reader (lentSum (now (table .entry))) (now (segment .entry)) place (now (buffer .entry)) .buffer) ⌝ }
+    ensures { λ r. ⌜
+        (r ≡ readCode (reader (lentSum (now (table .entry))) (now (segment .entry)) place (now (buffer .entry)) .answer))
+        × (now (out .exit) ≡ readOut (reader (lentSum (now (table .entry))) (now (segment .entry)) place (now (buffer .entry)) .answer))
+        × (now (buffer .exit) ≡ reader (lentSum (now (table .entry))) (now (segment .entry)) place (now (buffer .entry)) .buffer) ⌝ }
 {
     let answer = segment::read_with_table(&table[0..], &segment[0..], Offset(place), buffer);
     tell_read(answer, out)
@@ -69,16 +72,19 @@ fn write_and_tell(
     table: &[u32],
     segment: &mut [u8],
     place: usize,
-    payload: &[u8],
+    record: &[u8],
     out: &mut [u64; 2],
 ) -> u32
-    ensures { λ r. ⌜ (r ≡ writeCode (writer (lentSum (now (table .entry))) (now (segment .entry)) place (now (payload .entry)) .answer)) × (now (out .exit) ≡ writeOut place (writer (lentSum (now (table .entry))) (now (segment .entry)) place (now (payload .entry)) .answer)) × (now (segment .exit) ≡ writer (lentSum (now (table .entry))) (now (segment .entry)) place (now (payload .entry)) .slice) ⌝ }
+    ensures { λ r. ⌜
+        (r ≡ writeCode (writer (lentSum (now (table .entry))) (now (segment .entry)) place (now («record» .entry)) .answer))
+        × (now (out .exit) ≡ writeOut place (writer (lentSum (now (table .entry))) (now (segment .entry)) place (now («record» .entry)) .answer))
+        × (now (segment .exit) ≡ writer (lentSum (now (table .entry))) (now (segment .entry)) place (now («record» .entry)) .slice) ⌝ }
 {
     let answer = segment_writer::write_with_table(
         &table[0..],
         segment,
         Offset(place),
-        &payload[0..],
+        &record[0..],
     );
     tell_write(answer, place, out)
 }
@@ -88,12 +94,15 @@ fn write_and_tell(
 pub extern "C" fn depot_wal_write(
     segment: &mut [u8],
     place: usize,
-    payload: &[u8],
+    record: &[u8],
     out: &mut [u64; 2],
 ) -> u32
-    ensures { λ r. ⌜ (r ≡ writeCode (writer crcSum (now (segment .entry)) place (now (payload .entry)) .answer)) × (now (out .exit) ≡ writeOut place (writer crcSum (now (segment .entry)) place (now (payload .entry)) .answer)) × (now (segment .exit) ≡ writer crcSum (now (segment .entry)) place (now (payload .entry)) .slice) ⌝ }
+    ensures { λ r. ⌜
+        (r ≡ writeCode (writer crcSum (now (segment .entry)) place (now («record» .entry)) .answer))
+        × (now (out .exit) ≡ writeOut place (writer crcSum (now (segment .entry)) place (now («record» .entry)) .answer))
+        × (now (segment .exit) ≡ writer crcSum (now (segment .entry)) place (now («record» .entry)) .slice) ⌝ }
 {
-    write_and_tell(&segment::NO_TABLE, segment, place, payload, out)
+    write_and_tell(&segment::NO_TABLE, segment, place, record, out)
 }
 
 // Reads the record at a place into the buffer.
@@ -104,7 +113,10 @@ pub extern "C" fn depot_wal_read(
     buffer: &mut [u8],
     out: &mut [u64; 3],
 ) -> u32
-    ensures { λ r. ⌜ (r ≡ readCode (reader crcSum (now (segment .entry)) place (now (buffer .entry)) .answer)) × (now (out .exit) ≡ readOut (reader crcSum (now (segment .entry)) place (now (buffer .entry)) .answer)) × (now (buffer .exit) ≡ reader crcSum (now (segment .entry)) place (now (buffer .entry)) .buffer) ⌝ }
+    ensures { λ r. ⌜
+        (r ≡ readCode (reader crcSum (now (segment .entry)) place (now (buffer .entry)) .answer))
+        × (now (out .exit) ≡ readOut (reader crcSum (now (segment .entry)) place (now (buffer .entry)) .answer))
+        × (now (buffer .exit) ≡ reader crcSum (now (segment .entry)) place (now (buffer .entry)) .buffer) ⌝ }
 {
     read_and_tell(&segment::NO_TABLE, segment, place, buffer, out)
 }
@@ -115,12 +127,15 @@ pub extern "C" fn depot_wal_write_with_table(
     table: &[u32; 2048],
     segment: &mut [u8],
     place: usize,
-    payload: &[u8],
+    record: &[u8],
     out: &mut [u64; 2],
 ) -> u32
-    ensures { λ r. ⌜ (r ≡ writeCode (writer (lentSum (now (table .entry))) (now (segment .entry)) place (now (payload .entry)) .answer)) × (now (out .exit) ≡ writeOut place (writer (lentSum (now (table .entry))) (now (segment .entry)) place (now (payload .entry)) .answer)) × (now (segment .exit) ≡ writer (lentSum (now (table .entry))) (now (segment .entry)) place (now (payload .entry)) .slice) ⌝ }
+    ensures { λ r. ⌜
+        (r ≡ writeCode (writer (lentSum (now (table .entry))) (now (segment .entry)) place (now («record» .entry)) .answer))
+        × (now (out .exit) ≡ writeOut place (writer (lentSum (now (table .entry))) (now (segment .entry)) place (now («record» .entry)) .answer))
+        × (now (segment .exit) ≡ writer (lentSum (now (table .entry))) (now (segment .entry)) place (now («record» .entry)) .slice) ⌝ }
 {
-    write_and_tell(table, segment, place, payload, out)
+    write_and_tell(table, segment, place, record, out)
 }
 
 // `depot_wal_read` with the checksum's table lent.
@@ -132,7 +147,10 @@ pub extern "C" fn depot_wal_read_with_table(
     buffer: &mut [u8],
     out: &mut [u64; 3],
 ) -> u32
-    ensures { λ r. ⌜ (r ≡ readCode (reader (lentSum (now (table .entry))) (now (segment .entry)) place (now (buffer .entry)) .answer)) × (now (out .exit) ≡ readOut (reader (lentSum (now (table .entry))) (now (segment .entry)) place (now (buffer .entry)) .answer)) × (now (buffer .exit) ≡ reader (lentSum (now (table .entry))) (now (segment .entry)) place (now (buffer .entry)) .buffer) ⌝ }
+    ensures { λ r. ⌜
+        (r ≡ readCode (reader (lentSum (now (table .entry))) (now (segment .entry)) place (now (buffer .entry)) .answer))
+        × (now (out .exit) ≡ readOut (reader (lentSum (now (table .entry))) (now (segment .entry)) place (now (buffer .entry)) .answer))
+        × (now (buffer .exit) ≡ reader (lentSum (now (table .entry))) (now (segment .entry)) place (now (buffer .entry)) .buffer) ⌝ }
 {
     read_and_tell(table, segment, place, buffer, out)
 }

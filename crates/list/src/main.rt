@@ -8,6 +8,7 @@ fn main() {
     let mut segment = [0u8; 65536];
     let mut buffer = [0u8; 65536];
     let got = io::read_full(0, &mut segment);
+    // Whether more was left: the record buffer is free until the first read.
     let more = io::read_full(0, &mut buffer);
     if 0 < more {
         lines::too_long();
@@ -16,7 +17,7 @@ fn main() {
     list(&segment[..got], &mut buffer);
 }
 
-// Reads from the start, each read at the place after the record just listed.
+// Reads from the start, each read at the place after the record just listed. The loop ends by its answers: a place is never past the segment.
 fn list(segment: &[u8], buffer: &mut [u8]) {
     let mut place = 0;
     let mut count: u64 = 0;

@@ -137,7 +137,7 @@ fn row_of(answer: EntryAnswer, place: usize) -> Row
     }
 }
 
-// No row: zeros, and the same place.
+// No row: zeros, and the same place. `fill` never comes to it, since the body was judged whole before.
 fn no_row(place: usize) -> Row
     ensures { λ r. ⌜ r ≡ noRow place ⌝ }
 {

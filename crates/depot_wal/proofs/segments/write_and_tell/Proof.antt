@@ -1,4 +1,4 @@
--- The promise is that of the call it passes on; the table and the payload are handed on whole.
+-- The promise is that of the call it passes on; the table and the record are handed on whole.
 -- Assumes nothing.
 use borrow.Author.Needs.{needs}
 use mathlib.Core.Path.{_≡_, ap, _∙_}
@@ -11,7 +11,7 @@ returns : tie.Need-returns
 returns c =
     let a = c .before .before .before .before .before .before .before .before .before .before .before .args in
     let told = c .tell-write .ensures in
-    let done = rw (whole-part (a .table .now), whole-part (a .payload .now)) at (c .before .before .before .before .write-with-table .ensures) in
+    let done = rw (whole-part (a .table .now), whole-part (a .record .now)) at (c .before .before .before .before .write-with-table .ensures) in
     (told .0 ∙ ap writeCode (done .0), told .1 ∙ ap (writeOut (a .place)) (done .0), done .1)
 
 pub write-and-tell-spec : {M : Type 1} → statement M
