@@ -1,7 +1,8 @@
 /* A proved write-ahead log in the Prometheus format, for programs in C.
  *
  * One segment lies in a buffer that the caller lends. Records of 0 to 65,536 bytes are written into it and read back, and five
- * kinds of record bodies are built and read. docs/FORMAT.md draws the bytes; examples/switch.c is a whole program.
+ * kinds of record bodies are built and read. docs/FORMAT.md draws the bytes; examples/switch.c is a whole program. The archive is
+ * for Linux on x86-64; beside the caller's memory it needs `memset`.
  *
  * What a call returns
  *   0     it did what was asked
@@ -24,7 +25,22 @@
  *
  * What the library promises
  *   - It never traps, and it touches nothing but what it was lent.
- *   - It allocates nothing and keeps nothing between calls, so calls on different buffers may run at the same time.
+ *   - It allocates nothing and keeps nothing between calls, so calls may run at the same time where none of them writes what
+ *     another one is lent: a table, or a segment that is only read, may be shared.
+ *   - Seen, not proved: no call takes 5 KiB of stack or more, and none recurses.
+ *
+ * From memory to the medium
+ *   A call works on memory, and a write stores its bytes there in no promised order. Bring the bytes from the old place to the new
+ *   one to the medium yourself, in the order of their offsets. The promise about a power cut (docs/FORMAT.md) is about bytes that
+ *   were put down in that order, and about reading exactly those that stand: lend their number as segment_len, not the size of a
+ *   file that was made long beforehand.
+ *
+ * Starting again after a cut (examples/switch.c does it)
+ *   Read from place 0 until a read does not return 0. It returns
+ *   12    Go on writing at the place told, over the unfinished record. Cut the medium off there first: a second cut must not leave
+ *         old bytes behind new ones.
+ *   200   Go on behind the last record. Where 1 to 6 bytes are left in its page, set them to zero and go on at the next page.
+ *   else  These bytes are not a log of ours that was cut: keep them for whoever looks into it, and start a new segment.
  */
 #ifndef DEPOT_WAL_H
 #define DEPOT_WAL_H
@@ -61,7 +77,7 @@ enum depot_wal_number {
     DEPOT_WAL_UNKNOWN_TYPE = 20, /* a body type other than 1, 2, 3, 4, 6 */
     DEPOT_WAL_EMPTY_BODY = 21,   /* a body without any byte */
     DEPOT_WAL_SHORT = 22,        /* the body ends inside a field */
-    DEPOT_WAL_BAD_VARINT = 23,   /* a number of more than 64 bits */
+    DEPOT_WAL_BAD_VARINT = 23,   /* the tenth byte of a varint is above 1 */
     DEPOT_WAL_LIST_FULL = 24,    /* more entries than a lent list has; no call of this header gives it */
     DEPOT_WAL_BAD_LIST = 25,     /* an odd number of strings, or lengths that do not add up to the strings */
     DEPOT_WAL_WRONG_KIND = 26,   /* an entry for a body of another type */
@@ -111,22 +127,24 @@ uint32_t depot_wal_read(const uint8_t *segment, size_t segment_len, size_t place
 
 /* ---- the checksum, and its table for those who read or write many short records ---- */
 
-/* Answers CRC-32C of the data; of no data it is 0. Refuses and changes nothing. */
+/* Answers CRC-32C of the data; of no data it is 0. Refuses nothing; changes nothing. */
 uint32_t depot_wal_crc32c(const uint8_t *data, size_t len);
 
-/* Fills the checksum's table, once, for the calls below. Refuses nothing; changes the table. */
+/* Fills the checksum's table (8,192 bytes), once, for the calls below. Refuses nothing; changes the table. */
 void depot_wal_table(uint32_t table[DEPOT_WAL_TABLE_LEN]);
 
-/* As depot_wal_crc32c, quicker on short data. A table with other contents gives a wrong sum, and nothing worse. */
+/* The same with a table that depot_wal_table filled, quicker on data below 512 bytes; longer data does not use it. With any other
+ * table, one that was never filled for instance, the sum of data below 512 bytes is not CRC-32C and may not show damage. */
 uint32_t depot_wal_crc32c_with_table(const uint32_t table[DEPOT_WAL_TABLE_LEN], const uint8_t *data, size_t len);
 
-/* As depot_wal_write, quicker for short records. A table with other contents writes wrong sums, which readers refuse as 10, and
- * nothing worse. */
+/* As depot_wal_write, quicker for short records. With another table than depot_wal_table fills, fragments below 512 bytes get sums
+ * that a reader without that table refuses as 10. */
 uint32_t depot_wal_write_with_table(const uint32_t table[DEPOT_WAL_TABLE_LEN],
                                     uint8_t *segment, size_t segment_len, size_t place,
                                     const uint8_t *record, size_t record_len, uint64_t out[2]);
 
-/* As depot_wal_read, quicker for short records. A table with other contents compares with wrong sums, and nothing worse. */
+/* As depot_wal_read, quicker for short records. With another table, fragments below 512 bytes are held to other sums: good ones may
+ * be refused as 10, and damaged ones that were written with that table may pass. */
 uint32_t depot_wal_read_with_table(const uint32_t table[DEPOT_WAL_TABLE_LEN],
                                    const uint8_t *segment, size_t segment_len, size_t place,
                                    uint8_t *buffer, size_t buffer_len, uint64_t out[3]);
@@ -154,7 +172,7 @@ uint32_t depot_wal_add_series(uint8_t *buffer, size_t len, uint8_t type, size_t 
                               const uint8_t *strings, size_t strings_len,
                               const uint64_t *lengths, size_t count, uint64_t out[2]);
 
-/* Adds a sample: series id, time, the 64 bits of the value (every NaN survives). */
+/* Adds a sample: series id, time (milliseconds, for Prometheus), the 64 bits of the value (every NaN survives). */
 uint32_t depot_wal_add_sample(uint8_t *buffer, size_t len, uint8_t type, size_t used,
                               uint64_t id, int64_t time, uint64_t bits, uint64_t out[2]);
 
