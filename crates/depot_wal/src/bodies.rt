@@ -2,35 +2,16 @@
 ghost use mathlib.Core.Path.{_≡_};
 ghost use Rattle.body_format.specs.Reading.{checkBody, readEntry, readString};
 ghost use Rattle.body_format.specs.Calls.{starter, builder, addSeries, addSample, addTombstone, addExemplar, addMetadata};
-ghost use Rattle.body_format.specs.declared.EntryAnswer.the-variants.{Found as «EntryFound»};
 ghost use Rattle.body_builder.specs.Answers.{addedOf};
-ghost use Rattle.depot_wal.specs.Bodies.{addedCode, addedOut, checkCode, checkOut, entryCode, entryOut, stringCode, stringOut};
-use body_builder::Added;
+ghost use Rattle.c_answers.specs.Bodies.{addedCode, addedOut, checkCode, checkOut, entryCode, entryOut, stringCode, stringOut};
 use body_builder::Body;
-use body_format::CheckAnswer;
-use body_format::EntryAnswer;
-use body_format::EntryView;
-use body_format::StringAnswer;
+use c_answers::tell_added;
+use c_answers::tell_check;
+use c_answers::tell_entry;
+use c_answers::tell_string;
 use wal_types::Offset;
 use wal_types::SeriesId;
 use wal_types::Timestamp;
-
-// Passes on what starting or adding answered; `given` are the bytes used that the call was given.
-fn tell_added(answer: Added, given: usize, out: &mut [u64; 2]) -> u32
-    ensures { λ r. ⌜ (r ≡ addedCode answer) × (now (out .exit) ≡ addedOut given answer) ⌝ }
-{
-    match answer {
-        Added::Next(state) => {
-            *out = [state.used.0 as u64, 0];
-            0
-        }
-        Added::Refused(why) => {
-            let at = wal_types::place(why);
-            *out = [given as u64, at.0 as u64];
-            wal_types::number(why)
-        }
-    }
-}
 
 // Starts a body of a type.
 #[no_mangle]
@@ -174,23 +155,6 @@ pub extern "C" fn depot_wal_add_metadata(
     tell_added(answer, used, out)
 }
 
-// Passes on what checking answered.
-fn tell_check(answer: CheckAnswer, out: &mut [u64; 1]) -> u32
-    ensures { λ r. ⌜ (r ≡ checkCode answer) × (now (out .exit) ≡ checkOut answer) ⌝ }
-{
-    match answer {
-        CheckAnswer::Entries(n) => {
-            *out = [n as u64];
-            0
-        }
-        CheckAnswer::Refused(why) => {
-            let at = wal_types::place(why);
-            *out = [at.0 as u64];
-            wal_types::number(why)
-        }
-    }
-}
-
 // Checks a body: how many entries it has, or its first fault.
 #[no_mangle]
 pub extern "C" fn depot_wal_body_check(bytes: &[u8], out: &mut [u64; 1]) -> u32
@@ -200,45 +164,6 @@ pub extern "C" fn depot_wal_body_check(bytes: &[u8], out: &mut [u64; 1]) -> u32
     tell_check(answer, out)
 }
 
-// An entry's numbers, in the order of `out`.
-fn numbers_of(entry: EntryView) -> [u64; 8]
-    ensures { λ r. ⌜ r ≡ entryOut (EntryFound entry) ⌝ }
-{
-    let time = entry.time;
-    let max = entry.max;
-    [
-        entry.kind as u64,
-        entry.id.0,
-        wal_types::time_bits(time),
-        wal_types::time_bits(max),
-        entry.bits,
-        entry.strings as u64,
-        entry.first.0 as u64,
-        entry.next.0 as u64,
-    ]
-}
-
-// Passes on what reading an entry answered.
-fn tell_entry(answer: EntryAnswer, out: &mut [u64; 8]) -> u32
-    ensures { λ r. ⌜ (r ≡ entryCode answer) × (now (out .exit) ≡ entryOut answer) ⌝ }
-{
-    match answer {
-        EntryAnswer::Found(entry) => {
-            *out = numbers_of(entry);
-            0
-        }
-        EntryAnswer::End => {
-            *out = [0, 0, 0, 0, 0, 0, 0, 0];
-            200
-        }
-        EntryAnswer::Refused(why) => {
-            let at = wal_types::place(why);
-            *out = [at.0 as u64, 0, 0, 0, 0, 0, 0, 0];
-            wal_types::number(why)
-        }
-    }
-}
-
 // Reads the entry at a place.
 #[no_mangle]
 pub extern "C" fn depot_wal_entry_at(bytes: &[u8], place: usize, out: &mut [u64; 8]) -> u32
@@ -246,23 +171,6 @@ pub extern "C" fn depot_wal_entry_at(bytes: &[u8], place: usize, out: &mut [u64;
 {
     let answer = body::entry_at(bytes, Offset(place));
     tell_entry(answer, out)
-}
-
-// Passes on what reading a string answered.
-fn tell_string(answer: StringAnswer, out: &mut [u64; 2]) -> u32
-    ensures { λ r. ⌜ (r ≡ stringCode answer) × (now (out .exit) ≡ stringOut answer) ⌝ }
-{
-    match answer {
-        StringAnswer::Found { start, length } => {
-            *out = [start.0 as u64, length as u64];
-            0
-        }
-        StringAnswer::Refused(why) => {
-            let at = wal_types::place(why);
-            *out = [at.0 as u64, 0];
-            wal_types::number(why)
-        }
-    }
 }
 
 // Reads the string at a place: where its bytes start, and how many they are.

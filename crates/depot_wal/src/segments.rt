@@ -2,52 +2,10 @@
 ghost use mathlib.Core.Path.{_≡_};
 ghost use Rattle.segment_format.specs.Calls.{reader, writer};
 ghost use Rattle.segment.specs.Sums.{crcSum, lentSum};
-ghost use Rattle.depot_wal.specs.Segments.{readCode, readOut, writeCode, writeOut};
-use segment_format::ReadAnswer;
-use segment_format::WriteAnswer;
+ghost use Rattle.c_answers.specs.Segments.{readCode, readOut, writeCode, writeOut};
+use c_answers::tell_read;
+use c_answers::tell_write;
 use wal_types::Offset;
-
-// Passes a read's answer on.
-fn tell_read(answer: ReadAnswer, out: &mut [u64; 3]) -> u32
-    ensures { λ r. ⌜ (r ≡ readCode answer) × (now (out .exit) ≡ readOut answer) ⌝ }
-{
-    match answer {
-        ReadAnswer::Record {
-            start,
-            length,
-            next,
-        } => {
-            *out = [start.0 as u64, length as u64, next.0 as u64];
-            0
-        }
-        ReadAnswer::End => {
-            *out = [0, 0, 0];
-            200
-        }
-        ReadAnswer::Refused(why) => {
-            let at = wal_types::place(why);
-            *out = [at.0 as u64, 0, 0];
-            wal_types::number(why)
-        }
-    }
-}
-
-// Passes a write's answer on; `place` is the one that the write was given.
-fn tell_write(answer: WriteAnswer, place: usize, out: &mut [u64; 2]) -> u32
-    ensures { λ r. ⌜ (r ≡ writeCode answer) × (now (out .exit) ≡ writeOut place answer) ⌝ }
-{
-    match answer {
-        WriteAnswer::Next(next) => {
-            *out = [next.0 as u64, 0];
-            0
-        }
-        WriteAnswer::Refused(why) => {
-            let at = wal_types::place(why);
-            *out = [place as u64, at.0 as u64];
-            wal_types::number(why)
-        }
-    }
-}
 
 // A read, and its answer passed on, for the calls with a table and without. Here it ends in numbers: an answer handed to another function
 // would be stored in parts and loaded whole, which stalls. `&x[0..]` hands a slice on by its address and length.

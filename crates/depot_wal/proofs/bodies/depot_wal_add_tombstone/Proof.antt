@@ -2,7 +2,7 @@
 -- Assumes nothing.
 use borrow.Author.Needs.{needs}
 use mathlib.Core.Path.{_≡_, ap, _∙_}
-use Rattle.depot_wal.specs.Bodies.{addedCode, addedOut}
+use Rattle.c_answers.specs.Bodies.{addedCode, addedOut}
 use mir.Facts.{toZ-ofZ}
 use mir.Syntax.{w64}
 use Rattle.depot_wal.proofs.bodies.depot_wal_add_tombstone.Statement.{statement}

@@ -2,7 +2,7 @@
 -- Assumes nothing.
 use borrow.Author.Needs.{needs}
 use mathlib.Core.Path.{_≡_, ap, _∙_}
-use Rattle.depot_wal.specs.Bodies.{checkCode, checkOut}
+use Rattle.c_answers.specs.Bodies.{checkCode, checkOut}
 use Rattle.depot_wal.proofs.bodies.depot_wal_body_check.Statement.{statement}
 use Rattle.depot_wal.proofs.bodies.depot_wal_body_check.Tie as tie
 

@@ -2,7 +2,7 @@
 -- Assumes nothing.
 use borrow.Author.Needs.{needs}
 use mathlib.Core.Path.{_≡_, ap, _∙_}
-use Rattle.depot_wal.specs.Bodies.{addedCode, addedOut}
+use Rattle.c_answers.specs.Bodies.{addedCode, addedOut}
 use Rattle.depot_wal.proofs.bodies.depot_wal_body_start.Statement.{statement}
 use Rattle.depot_wal.proofs.bodies.depot_wal_body_start.Tie as tie
 

@@ -2,7 +2,7 @@
 -- Assumes nothing.
 use borrow.Author.Needs.{needs}
 use mathlib.Core.Path.{_≡_, ap, _∙_}
-use Rattle.depot_wal.specs.Bodies.{entryCode, entryOut}
+use Rattle.c_answers.specs.Bodies.{entryCode, entryOut}
 use Rattle.depot_wal.proofs.bodies.depot_wal_entry_at.Statement.{statement}
 use Rattle.depot_wal.proofs.bodies.depot_wal_entry_at.Tie as tie
 

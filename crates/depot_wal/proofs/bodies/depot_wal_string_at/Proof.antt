@@ -2,7 +2,7 @@
 -- Assumes nothing.
 use borrow.Author.Needs.{needs}
 use mathlib.Core.Path.{_≡_, ap, _∙_}
-use Rattle.depot_wal.specs.Bodies.{stringCode, stringOut}
+use Rattle.c_answers.specs.Bodies.{stringCode, stringOut}
 use Rattle.depot_wal.proofs.bodies.depot_wal_string_at.Statement.{statement}
 use Rattle.depot_wal.proofs.bodies.depot_wal_string_at.Tie as tie
 

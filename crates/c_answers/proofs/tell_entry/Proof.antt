@@ -5,8 +5,8 @@ use Prim.Native.Nat.{ℕ}
 use mathlib.Core.Path.{refl, ap}
 use mathlib.Core.List.{List, [], _∷_}
 use Rattle.wal_types.specs.declared.Offset.{Offset}
-use Rattle.depot_wal.proofs.bodies.tell_entry.Statement.{statement}
-use Rattle.depot_wal.proofs.bodies.tell_entry.Tie as tie
+use Rattle.c_answers.proofs.tell_entry.Statement.{statement}
+use Rattle.c_answers.proofs.tell_entry.Tie as tie
 
 returns : tie.Need-returns
 returns c = rw (c .before .before .answer .given .1) (refl, c .numbers-of .ensures)
