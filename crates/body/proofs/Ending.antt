@@ -5,9 +5,10 @@ use Prim.Native.Nat.{ℕ}
 use Rattle.wal_types.specs.declared.Refusal.{Refusal}
 use Rattle.body_format.specs.Fields.{Field, got, fault, andThen, byteAt, fixedAt, uvarintAt, varintAt, textListAt}
 use Rattle.body_format.specs.Entries.{rowAt, seriesAt, sampleAt, tombstoneAt, exemplarAt, metadataAt}
-use Rattle.body.specs.declared.fields.Place.{Place}
-use Rattle.body.specs.declared.fields.Place.the-variants.{At, Fault}
-use Rattle.body.specs.Answers.{endOf, onward}
+use Rattle.body_fields.specs.declared.Place.{Place}
+use Rattle.body_fields.specs.declared.Place.the-variants.{At, Fault}
+use Rattle.body_fields.specs.Ends.{endOf}
+use Rattle.body.specs.Answers.{onward}
 
 -- a field and then what ends where h says, whatever the field's value
 end-then : {A B : Type 0} (f : Field A) (g : A → ℕ → Field B) (h : ℕ → Place) → ((a : A) (q : ℕ) → endOf (g a q) ≡ h q)

@@ -14,10 +14,10 @@ use Rattle.body_format.specs.Fields.{got, fault, Texts, fixedAt, uvarintAt, var
 use Rattle.body_format.specs.Entries.{Row, typeByte, rowAt, seriesAt, sampleAt, tombstoneAt, exemplarAt, metadataAt, entryAt}
 use Rattle.body_format.specs.Reading.{answerEntry}
 use Rattle.body.specs.declared.rows.RowRead.the-variants as row
-use Rattle.body.specs.declared.strings.TextListRead.{TextListRead}
-use Rattle.body.specs.declared.strings.TextListRead.the-variants as list
+use Rattle.body_fields.specs.declared.TextListRead.{TextListRead}
+use Rattle.body_fields.specs.declared.TextListRead.the-variants as list
 use Rattle.body.specs.Answers.{rowsKind, BaseIn, rowRead, rowGot, labelsRead}
-use Rattle.body.proofs.Forms.{never, list-got, list-fault}
+use Rattle.body_fields.specs.Laws.{never, list-got, list-fault}
 
 module _ (s : List ℕ) (p : ℕ) where
   -- a row

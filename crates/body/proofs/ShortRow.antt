@@ -13,11 +13,12 @@ use Rattle.wal_types.specs.declared.Timestamp.{Timestamp}
 use Rattle.body_format.specs.Fields.{got, uvarintAt, fixedAt}
 use Rattle.body_format.specs.Entries.{rowAt}
 use Rattle.body_format.specs.Laws.Fields.{place-same, fixed-got}
-use Rattle.body.specs.declared.fields.Place.the-variants.{At}
-use Rattle.body.specs.Answers.{isShortRow, endOf, BaseIn, rowGot, rowRead}
-use Rattle.body.proofs.Forms.{never}
+use Rattle.body_fields.specs.declared.Place.the-variants.{At}
+use Rattle.body_fields.specs.Ends.{endOf}
+use Rattle.body.specs.Answers.{isShortRow, BaseIn, rowGot, rowRead}
+use Rattle.body_fields.specs.Laws.{never}
 use Rattle.body.proofs.Parts.{row-all}
-use Rattle.body.proofs.Reading.{uvarint-one}
+use Rattle.body_fields.specs.Laws.{uvarint-one}
 
 module _ (s : List ℕ) (p : ℕ) where
   pub too-few : length s < p + 10 → false ≡ isShortRow s p

@@ -4,7 +4,6 @@ use mathlib.Core.Path.{_≡_}
 use mathlib.Core.Bool.{Bool, true, false, cond, _&&_}
 use mathlib.Core.List.{List, [], _∷_}
 use Prim.Native.Nat.{ℕ, _+_, _-_}
-use lib.IntN.{ℤ}
 use lib.Dec.{eqb, leb, ltb}
 use lib.ListN.{length, getD, drop}
 use Rattle.wal_types.specs.declared.Refusal.the-variants.{UnknownType, EmptyBody}
@@ -13,7 +12,7 @@ use Rattle.wal_types.specs.declared.Timestamp.{Timestamp}
 use Rattle.wal_types.specs.Terms.{seriesId, timestamp}
 use Rattle.wal_types.specs.Deltas.{plus, toBits, fromBits}
 use Rattle.big_endian.specs.Fixed.{readBe8}
-use Rattle.body_format.specs.Fields.{Field, got, fault, Text, Texts, textListAt}
+use Rattle.body_format.specs.Fields.{Field, got, fault, textListAt}
 use Rattle.body_format.specs.Entries.{Kind, series, samples, tombstones, exemplars, metadata, Known, known, unknown, kindOf, Row}
 use Rattle.body.specs.declared.kinds.BodyKind.{BodyKind}
 use Rattle.body.specs.declared.kinds.BodyKind.the-variants.{Rows, Plain}
@@ -21,16 +20,11 @@ use Rattle.body.specs.declared.kinds.PlainKind.{PlainKind}
 use Rattle.body.specs.declared.kinds.PlainKind.the-variants.{Series, Tombstones, Metadata}
 use Rattle.body.specs.declared.kinds.TypeRead.{TypeRead}
 use Rattle.body.specs.declared.kinds.TypeRead.the-variants as type
-use Rattle.body.specs.declared.fields.NumberRead.{NumberRead}
-use Rattle.body.specs.declared.fields.NumberRead.the-variants as number
-use Rattle.body.specs.declared.fields.SignedRead.{SignedRead}
-use Rattle.body.specs.declared.fields.SignedRead.the-variants as signed
-use Rattle.body.specs.declared.strings.TextRead.{TextRead}
-use Rattle.body.specs.declared.strings.TextRead.the-variants as text
-use Rattle.body.specs.declared.strings.TextListRead.{TextListRead}
-use Rattle.body.specs.declared.strings.TextListRead.the-variants as list
-use Rattle.body.specs.declared.fields.Place.{Place}
-use Rattle.body.specs.declared.fields.Place.the-variants.{At, Fault}
+use Rattle.body_fields.specs.declared.TextListRead.{TextListRead}
+use Rattle.body_fields.specs.declared.TextListRead.the-variants as list
+use Rattle.body_fields.specs.declared.Place.{Place}
+use Rattle.body_fields.specs.declared.Place.the-variants.{At, Fault}
+use Rattle.body_fields.specs.Readings.{textListRead}
 use Rattle.body.specs.declared.rows.RowRead.{RowRead}
 use Rattle.body.specs.declared.rows.RowRead.the-variants as row
 
@@ -66,35 +60,7 @@ unfoldable pub typeRead : List ℕ → TypeRead
 typeRead [] = type.Refused EmptyBody
 typeRead (b ∷ s) = typeFound (kindOf b)
 
--- ---- fields
-
-abbrev pub numberRead : Field ℕ → NumberRead
-numberRead (got n next) = number.Got n next
-numberRead (fault why) = number.Fault why
-
-abbrev pub signedRead : Field ℤ → SignedRead
-signedRead (got x next) = signed.Got x next
-signedRead (fault why) = signed.Fault why
-
-abbrev pub textRead : Field Text → TextRead
-textRead (got t next) = text.Got (t .start) (length (t .bytes)) next
-textRead (fault why) = text.Fault why
-
--- strings in a row, behind `count` others of a list whose first begins at `first`
-abbrev pub tally : ℕ → ℕ → Field (List (List ℕ)) → TextListRead
-tally first count (got ts next) = list.Got (count + length ts) first next
-tally first count (fault why) = list.Fault why
-
-abbrev pub textListRead : Field Texts → TextListRead
-textListRead (got l next) = list.Got (length (l .strings)) (l .first) next
-textListRead (fault why) = list.Fault why
-
 -- ---- ends
-
--- the place after a field or an entry
-abbrev pub endOf : {A : Type 0} → Field A → Place
-endOf (got a next) = At next
-endOf (fault why) = Fault why
 
 -- on from a place, or the fault that was met before
 abbrev pub onward : Place → (ℕ → Place) → Place

@@ -1,22 +1,23 @@
 // Where an entry ends. Counting needs no more, so the fields are walked and their values are not kept.
-use crate::fields::NumberRead;
-use crate::fields::Place;
-use crate::fields::SignedRead;
-use crate::fields::byte_at;
-use crate::fields::fixed_at;
-use crate::fields::uvarint_at;
-use crate::fields::varint_at;
 use crate::kinds::BodyKind;
 use crate::kinds::PlainKind;
 use crate::rows::SHORT_ROW;
 use crate::rows::is_short_row;
-use crate::strings::TextListRead;
-use crate::strings::text_list_at;
+use body_fields::NumberRead;
+use body_fields::Place;
+use body_fields::SignedRead;
+use body_fields::TextListRead;
+use body_fields::byte_at;
+use body_fields::fixed_at;
+use body_fields::text_list_at;
+use body_fields::uvarint_at;
+use body_fields::varint_at;
 ghost use mathlib.Core.Path.{_≡_};
 ghost use Prim.Native.Nat.{ℕ};
 ghost use Rattle.body_format.specs.Fields.{byteAt, fixedAt, uvarintAt, varintAt, textListAt};
 ghost use Rattle.body_format.specs.Entries.{rowAt, seriesAt, tombstoneAt, metadataAt, entryAt};
-ghost use Rattle.body.specs.Answers.{kindIn, plainIn, rowsKind, endOf, onward};
+ghost use Rattle.body_fields.specs.Ends.{endOf};
+ghost use Rattle.body.specs.Answers.{kindIn, plainIn, rowsKind, onward};
 
 // ---- a field behind a place, or the fault that was met before it
 

@@ -1,13 +1,13 @@
 // Types 1, 3 and 6: entries that stand alone, read at their place.
-use crate::fields::NumberRead;
-use crate::fields::SignedRead;
-use crate::fields::byte_at;
-use crate::fields::fixed_at;
-use crate::fields::uvarint_at;
-use crate::fields::varint_at;
 use crate::kinds::PlainKind;
-use crate::strings::TextListRead;
-use crate::strings::text_list_at;
+use body_fields::NumberRead;
+use body_fields::SignedRead;
+use body_fields::TextListRead;
+use body_fields::byte_at;
+use body_fields::fixed_at;
+use body_fields::text_list_at;
+use body_fields::uvarint_at;
+use body_fields::varint_at;
 use body_format::EntryAnswer;
 use body_format::EntryView;
 use wal_types::Offset;

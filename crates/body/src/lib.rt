@@ -2,25 +2,23 @@
 // of the crate body_format say.
 mod ends;
 mod entries;
-mod fields;
 mod kinds;
 mod places;
 mod rows;
-mod strings;
 
+use body_fields::Place;
+use body_fields::TextRead;
+use body_fields::text_at;
 use body_format::CheckAnswer;
 use body_format::EntryAnswer;
 use body_format::StringAnswer;
 use entries::plain_entry;
-use fields::Place;
 use kinds::BodyKind;
 use kinds::TypeRead;
 use kinds::body_type;
 use places::count_entries;
 use places::entries_begin;
 use rows::row_entry;
-use strings::TextRead;
-use strings::text_at;
 use wal_types::Offset;
 use wal_types::Refusal;
 ghost use mathlib.Core.Path.{_≡_};

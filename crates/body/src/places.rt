@@ -1,8 +1,8 @@
 // Where the entries of a body begin, and how many there are.
 use crate::ends::entry_end;
-use crate::fields::Place;
 use crate::kinds::BodyKind;
 use crate::rows::rows_begin;
+use body_fields::Place;
 use body_format::CheckAnswer;
 ghost use mathlib.Core.Path.{_≡_};
 ghost use Prim.Native.Nat.{_≤_, _<_};

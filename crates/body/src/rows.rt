@@ -1,10 +1,10 @@
 // Types 2 and 4: rows, behind a first id and a first timestamp.
-use crate::fields::NumberRead;
-use crate::fields::Place;
-use crate::fields::fixed_at;
-use crate::fields::uvarint_at;
-use crate::strings::TextListRead;
-use crate::strings::text_list_at;
+use body_fields::NumberRead;
+use body_fields::Place;
+use body_fields::TextListRead;
+use body_fields::fixed_at;
+use body_fields::text_list_at;
+use body_fields::uvarint_at;
 use body_format::EntryAnswer;
 use body_format::EntryView;
 use wal_types::Offset;

@@ -12,7 +12,7 @@ use Rattle.body.specs.declared.kinds.BodyKind.{BodyKind}
 use Rattle.body.specs.declared.kinds.TypeRead.{TypeRead}
 use Rattle.body.specs.declared.kinds.TypeRead.the-variants as type
 use Rattle.body.specs.Answers.{kindIn, typeRead}
-use Rattle.body.proofs.Forms.{text-told, text-faulty}
+use Rattle.body_fields.specs.Laws.{text-told, text-faulty}
 use Rattle.body.proofs.Types.{byType, string-type}
 use Rattle.body.proofs.Reading.{string-found, string-refused}
 use Rattle.body.proofs.string_at.Statement.{statement}

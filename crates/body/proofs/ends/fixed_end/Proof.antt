@@ -1,7 +1,7 @@
 -- `fixed_end` meets its contract: on from a place, or the fault that was met before.
 use borrow.Author.Needs.{needs}
 use Rattle.body_format.specs.Fields.{fixedAt}
-use Rattle.body.proofs.Forms.{number-got, number-fault}
+use Rattle.body_fields.specs.Laws.{number-got, number-fault}
 use Rattle.body.proofs.Ending.{end-at, end-fault, end-before}
 use Rattle.body.proofs.ends.fixed_end.Statement.{statement}
 use Rattle.body.proofs.ends.fixed_end.Tie as tie

@@ -1,7 +1,7 @@
 -- `list_end` meets its contract: on from a place, or the fault that was met before.
 use borrow.Author.Needs.{needs}
 use Rattle.body_format.specs.Fields.{textListAt}
-use Rattle.body.proofs.Forms.{list-got, list-fault}
+use Rattle.body_fields.specs.Laws.{list-got, list-fault}
 use Rattle.body.proofs.Ending.{end-at, end-fault, end-before}
 use Rattle.body.proofs.ends.list_end.Statement.{statement}
 use Rattle.body.proofs.ends.list_end.Tie as tie

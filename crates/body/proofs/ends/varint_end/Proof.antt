@@ -1,7 +1,7 @@
 -- `varint_end` meets its contract: on from a place, or the fault that was met before.
 use borrow.Author.Needs.{needs}
 use Rattle.body_format.specs.Fields.{varintAt}
-use Rattle.body.proofs.Forms.{signed-got, signed-fault}
+use Rattle.body_fields.specs.Laws.{signed-got, signed-fault}
 use Rattle.body.proofs.Ending.{end-at, end-fault, end-before}
 use Rattle.body.proofs.ends.varint_end.Statement.{statement}
 use Rattle.body.proofs.ends.varint_end.Tie as tie

@@ -1,6 +1,6 @@
 -- `metadata_at` meets its contract, field by field.
 use borrow.Author.Needs.{needs}
-use Rattle.body.proofs.Forms.{number-got, number-fault, list-got, list-fault}
+use Rattle.body_fields.specs.Laws.{number-got, number-fault, list-got, list-fault}
 use Rattle.body.proofs.Parts.{metadata-1, metadata-2, metadata-3, metadata-all}
 use Rattle.body.proofs.entries.metadata_at.Statement.{statement}
 use Rattle.body.proofs.entries.metadata_at.Tie as tie

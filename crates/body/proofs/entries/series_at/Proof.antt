@@ -1,6 +1,6 @@
 -- `series_at` meets its contract, field by field.
 use borrow.Author.Needs.{needs}
-use Rattle.body.proofs.Forms.{number-got, number-fault, list-got, list-fault}
+use Rattle.body_fields.specs.Laws.{number-got, number-fault, list-got, list-fault}
 use Rattle.body.proofs.Parts.{series-1, series-2, series-all}
 use Rattle.body.proofs.entries.series_at.Statement.{statement}
 use Rattle.body.proofs.entries.series_at.Tie as tie

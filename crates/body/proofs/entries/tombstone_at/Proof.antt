@@ -2,9 +2,9 @@
 use borrow.Author.Needs.{needs, sfits-of}
 use mir.Syntax.{w64}
 use mir.Facts.{toZ-ofZ}
-use Rattle.body.proofs.Forms.{number-got, number-fault, signed-got, signed-fault}
+use Rattle.body_fields.specs.Laws.{number-got, number-fault, signed-got, signed-fault}
 use Rattle.body.proofs.Parts.{tombstone-1, tombstone-2, tombstone-3, tombstone-all}
-use Rattle.body.proofs.Reading.{varint-fits}
+use Rattle.body_fields.specs.Laws.{varint-fits}
 use Rattle.body.proofs.entries.tombstone_at.Statement.{statement}
 use Rattle.body.proofs.entries.tombstone_at.Tie as tie
 

@@ -4,7 +4,7 @@ use native.Mathlib.Omega.{arith}
 use Prim.Native.Nat.{_-_}
 use mathlib.Core.Path.{subst}
 use lib.ListN.{length}
-use Rattle.body.specs.declared.fields.Place.the-variants.{At}
+use Rattle.body_fields.specs.declared.Place.the-variants.{At}
 use Rattle.body.specs.Answers.{kindIn}
 use Rattle.body.proofs.Reading.{Counting, counting, end-turn, count-done, EndTold}
 use Rattle.body.proofs.places.count_entries.Statement.{statement}

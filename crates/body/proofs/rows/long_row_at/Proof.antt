@@ -1,7 +1,7 @@
 -- `long_row_at` meets its contract, field by field.
 use borrow.Author.Needs.{needs}
 use mathlib.Core.Path.{_∙_}
-use Rattle.body.proofs.Forms.{number-got, number-fault}
+use Rattle.body_fields.specs.Laws.{number-got, number-fault}
 use Rattle.body.proofs.Parts.{row-1, row-2, row-3, row-all}
 use Rattle.body.proofs.rows.long_row_at.Statement.{statement}
 use Rattle.body.proofs.rows.long_row_at.Tie as tie

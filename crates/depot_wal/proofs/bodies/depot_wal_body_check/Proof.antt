@@ -1,7 +1,7 @@
 -- The call's promise is that of the call it passes on.
 -- Assumes nothing.
 use borrow.Author.Needs.{needs}
-use mathlib.Core.Path.{_≡_, ap, _∙_}
+use mathlib.Core.Path.{ap, _∙_}
 use Rattle.c_answers.specs.Bodies.{checkCode, checkOut}
 use Rattle.depot_wal.proofs.bodies.depot_wal_body_check.Statement.{statement}
 use Rattle.depot_wal.proofs.bodies.depot_wal_body_check.Tie as tie

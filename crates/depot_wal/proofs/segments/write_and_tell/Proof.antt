@@ -1,7 +1,7 @@
 -- The promise is that of the call it passes on; the table and the record are handed on whole.
 -- Assumes nothing.
 use borrow.Author.Needs.{needs}
-use mathlib.Core.Path.{_≡_, ap, _∙_}
+use mathlib.Core.Path.{ap, _∙_}
 use Rattle.crc32c_format.specs.Laws.{whole-part}
 use Rattle.c_answers.specs.Segments.{writeCode, writeOut}
 use Rattle.depot_wal.proofs.segments.write_and_tell.Statement.{statement}

@@ -1,0 +1,201 @@
+// The fields of a body, each read at its place. A fault is at the field's first byte.
+use uvarint::UvarintRead;
+use varint::VarintRead;
+use wal_types::Offset;
+use wal_types::Refusal;
+ghost use mathlib.Core.Path.{_≡_};
+ghost use Prim.Native.Nat.{_*_, _≤_};
+ghost use lib.ListN.{length};
+ghost use Rattle.body_format.specs.Fields.{byteAt, fixedAt, uvarintAt, varintAt, textAt, textsAt, textListAt};
+ghost use Rattle.body_fields.specs.Readings.{numberRead, signedRead, textRead, textListRead};
+ghost use Rattle.body_fields.specs.Ends.{endOf, tally};
+
+// ---- numbers
+
+// A number and the place after it.
+pub enum NumberRead {
+    Got { value: u64, next: usize },
+    Fault(Refusal),
+}
+
+pub enum SignedRead {
+    Got { value: i64, next: usize },
+    Fault(Refusal),
+}
+
+// A place, or a fault on the way to it.
+pub enum Place {
+    At(usize),
+    Fault(Refusal),
+}
+
+// A single byte.
+pub fn byte_at(body: &[u8], at: usize) -> NumberRead
+    ensures { λ r. ⌜ r ≡ numberRead (byteAt (now (body .entry)) at) ⌝ }
+{
+    if body.len() <= at {
+        return NumberRead::Fault(Refusal::Short(Offset(at)));
+    }
+    let value = body[at] as u64;
+    let next = at + 1;
+    NumberRead::Got { value, next }
+}
+
+// 8 bytes, big-endian.
+pub fn fixed_at(body: &[u8], at: usize) -> NumberRead
+    ensures { λ r. ⌜ r ≡ numberRead (fixedAt (now (body .entry)) at) ⌝ }
+{
+    if body.len() < at {
+        return NumberRead::Fault(Refusal::Short(Offset(at)));
+    }
+    if body.len() - at < 8 {
+        return NumberRead::Fault(Refusal::Short(Offset(at)));
+    }
+    let value = big_endian::get_be8(body, at);
+    let next = at + 8;
+    NumberRead::Got { value, next }
+}
+
+// Most numbers have one byte, so that one is looked at first: a call costs more.
+pub fn uvarint_at(body: &[u8], at: usize) -> NumberRead
+    ensures { λ r. ⌜ r ≡ numberRead (uvarintAt (now (body .entry)) at) ⌝ }
+{
+    if at < body.len() {
+        let value = body[at] as u64;
+        if value < 128 {
+            let next = at + 1;
+            return NumberRead::Got { value, next };
+        }
+    }
+    long_uvarint_at(body, at)
+}
+
+// A uvarint of any length.
+fn long_uvarint_at(body: &[u8], at: usize) -> NumberRead
+    ensures { λ r. ⌜ r ≡ numberRead (uvarintAt (now (body .entry)) at) ⌝ }
+{
+    match uvarint::get_uvarint(body, at) {
+        UvarintRead::Value { n, len } => {
+            let next = at + len;
+            NumberRead::Got { value: n, next }
+        }
+        UvarintRead::Short => NumberRead::Fault(Refusal::Short(Offset(at))),
+        UvarintRead::BadVarint => NumberRead::Fault(Refusal::BadVarint(Offset(at))),
+    }
+}
+
+// A signed varint.
+pub fn varint_at(body: &[u8], at: usize) -> SignedRead
+    ensures { λ r. ⌜ r ≡ signedRead (varintAt (now (body .entry)) at) ⌝ }
+{
+    match varint::get_varint(body, at) {
+        VarintRead::Value { x, len } => {
+            let next = at + len;
+            SignedRead::Got { value: x, next }
+        }
+        VarintRead::Short => SignedRead::Fault(Refusal::Short(Offset(at))),
+        VarintRead::BadVarint => SignedRead::Fault(Refusal::BadVarint(Offset(at))),
+    }
+}
+
+// ---- strings
+
+// Where a string's bytes start, how many they are, and the place after them.
+pub enum TextRead {
+    Got {
+        start: usize,
+        length: usize,
+        next: usize,
+    },
+    Fault(Refusal),
+}
+
+// How many strings a list has, where the first begins, and the place after the last.
+pub enum TextListRead {
+    Got {
+        count: usize,
+        first: usize,
+        next: usize,
+    },
+    Fault(Refusal),
+}
+
+// A string with its length is one field. The length is compared with what remains, never added before that.
+pub fn text_at(body: &[u8], at: usize) -> TextRead
+    ensures { λ r. ⌜ r ≡ textRead (textAt (now (body .entry)) at) ⌝ }
+{
+    match uvarint_at(body, at) {
+        NumberRead::Got { value, next } => {
+            let left = (body.len() - next) as u64;
+            if left < value {
+                return TextRead::Fault(Refusal::Short(Offset(at)));
+            }
+            let length = value as usize;
+            let after = next + length;
+            TextRead::Got {
+                start: next,
+                length,
+                next: after,
+            }
+        }
+        NumberRead::Fault(why) => TextRead::Fault(why),
+    }
+}
+
+// The place after two strings.
+fn pair_at(body: &[u8], at: usize) -> Place
+    ensures { λ r. ⌜ r ≡ endOf (textsAt 2 (now (body .entry)) at) ⌝ }
+{
+    match text_at(body, at) {
+        TextRead::Got {
+            start: _,
+            length: _,
+            next,
+        } => match text_at(body, next) {
+            TextRead::Got {
+                start: _,
+                length: _,
+                next,
+            } => Place::At(next),
+            TextRead::Fault(why) => Place::Fault(why),
+        },
+        TextRead::Fault(why) => Place::Fault(why),
+    }
+}
+
+// So many pairs of strings. The strings are counted as they are found: twice the number of pairs need not fit 64 bits.
+fn pairs_at(body: &[u8], first: usize, pairs: u64) -> TextListRead
+    requires { ⌜ first ≤ length (now body) ⌝ }
+    ensures { λ r. ⌜ r ≡ tally first 0 (textsAt (2 * pairs) (now (body .entry)) first) ⌝ }
+{
+    let mut at = first;
+    let mut count: usize = 0;
+    let mut left = pairs;
+    while 0 < left {
+        match pair_at(body, at) {
+            Place::At(next) => {
+                at = next;
+            }
+            Place::Fault(why) => {
+                return TextListRead::Fault(why);
+            }
+        }
+        count += 2;
+        left -= 1;
+    }
+    TextListRead::Got {
+        count,
+        first,
+        next: at,
+    }
+}
+
+// A count n, and then 2n strings.
+pub fn text_list_at(body: &[u8], at: usize) -> TextListRead
+    ensures { λ r. ⌜ r ≡ textListRead (textListAt (now (body .entry)) at) ⌝ }
+{
+    match uvarint_at(body, at) {
+        NumberRead::Got { value, next } => pairs_at(body, next, value),
+        NumberRead::Fault(why) => TextListRead::Fault(why),
+    }
+}
