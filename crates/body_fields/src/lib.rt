@@ -18,6 +18,7 @@ pub enum NumberRead {
     Fault(Refusal),
 }
 
+// A signed number and the place after it.
 pub enum SignedRead {
     Got { value: i64, next: usize },
     Fault(Refusal),
@@ -56,7 +57,7 @@ pub fn fixed_at(body: &[u8], at: usize) -> NumberRead
     NumberRead::Got { value, next }
 }
 
-// Most numbers have one byte, so that one is looked at first: a call costs more.
+// A uvarint. Most have one byte, so that one is looked at first: a call costs more.
 pub fn uvarint_at(body: &[u8], at: usize) -> NumberRead
     ensures { λ r. ⌜ r ≡ numberRead (uvarintAt (now (body .entry)) at) ⌝ }
 {
