@@ -1,4 +1,4 @@
--- The definitions' readings in the forms that the code hands from one function to the next: where a string's bytes do not matter, they are left out.
+-- The definitions' readings of types, entries and rows in the forms that the code hands from one function to the next; those of fields are body_fields:Readings.
 -- Assumes nothing.
 use mathlib.Core.Path.{_≡_}
 use mathlib.Core.Bool.{Bool, true, false, cond, _&&_}

@@ -207,7 +207,7 @@ pub(crate) fn rows_begin(body: &[u8]) -> Place
 }
 
 // A body that ends before its rows: place 1 is its end where nothing stands behind the type byte, and no other place is good. It asks for the lengths
-// that `rows_begin` asks for: to take that one's answer apart again made reading an entry slower.
+// that `rows_begin` asks for: to take that one's answer apart again was slower (docs/DECISIONS.md, 34).
 fn no_row(body: &[u8], at: usize) -> EntryAnswer
     requires { ⌜ (0 < length (now body)) × (length (now body) < 17) ⌝ }
     ensures { λ r. ⌜ ((labelled : Bool) → r ≡ entryKnown (known (rowsKind labelled)) (now (body .entry)) at) ⌝ }

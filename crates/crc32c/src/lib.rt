@@ -12,7 +12,7 @@ ghost use Rattle.crc32c_format.specs.Table.{nibbleTable};
 ghost use Rattle.crc32c_format.specs.Lent.{lookUp2, lookUp4, tableStep1, tableStep4, tableStep8, steps, eightsEnd, foursEnd, tableRegister, sumBy};
 ghost use Rattle.crc32c_format.specs.Method.Fold.{onto290, onto130, taps, Folded, Slid, Cleared, Rest};
 
-// From so many bytes on, folding is quicker than a table.
+// From so many bytes on the data is folded, which needs no table.
 const LONG: usize = 512;
 
 // ---- bytes as a number, the first lowest
