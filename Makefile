@@ -7,7 +7,7 @@ export CARGO_TARGET_DIR := $(CURDIR)/build/cargo
 ARCHIVE := target/staticlib/libdepot_wal.a
 CFLAGS := -std=c99 -Wall -Wextra -Werror -O2 -Iinclude
 
-SOURCES := crates.txt $(shell find crates -type f)
+SOURCES := crates.txt tools/archive $(shell find crates -type f)
 
 .PHONY: demo test bench valgrind clean
 
@@ -34,8 +34,7 @@ $(ARCHIVE): $(SOURCES)
 	@mkdir -p build
 	@echo 'Proving the library and the listing program (minutes the first time) ..'
 	@rt check list >build/check.log 2>&1 || { tail -n 40 build/check.log; exit 1; }
-	@rt staticlib depot_wal >build/staticlib.log 2>&1 || { tail -n 40 build/staticlib.log; exit 1; }
-	@touch $@
+	@tools/archive
 
 clean:
 	rm -rf target build

@@ -1,4 +1,4 @@
--- Defines fixed fields of eight bytes, big-endian: the bytes of a number, and the number that bytes say.
+-- Fixed fields, big-endian: the bytes of a number, and the number that bytes say.
 -- To be believed. Assumes nothing.
 use Prim.Native.Nat.{ℕ, _+_, _*_, _/_, _%_, _^_}
 use mathlib.Core.Bool.{true, false}
@@ -13,6 +13,10 @@ be4 x = x / 2 ^ 24 % 256 ∷ x / 2 ^ 16 % 256 ∷ x / 2 ^ 8 % 256 ∷ x % 256 �
 -- the eight lowest bytes of x, the highest first
 unfoldable pub be8 : ℕ → List ℕ
 be8 x = be4 (x / 2 ^ 32) ++ be4 x
+
+-- what the first two bytes say
+unfoldable pub readBe2 : List ℕ → ℕ
+readBe2 s = getD s 0 0 * 2 ^ 8 + getD s 1 0
 
 -- what the first four bytes say
 unfoldable pub readBe4 : List ℕ → ℕ

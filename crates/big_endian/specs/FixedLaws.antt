@@ -7,10 +7,10 @@ use native.Mathlib.Nat.{add-zero}
 use native.Mathlib.Omega.{arith}
 use borrow.Author.Tests.{le-leb, lt-leb}
 use lib.Dec.{leb}
-use lib.ListN.{length, drop, getD, length-append, length-drop, List·getD-append}
+use lib.ListN.{length, take, drop, getD, length-append, length-drop, List·getD-append}
 use lib.Pow.{mod-pow-add}
-use lib.Seq.{drop-append-le, getD-drop}
-use Rattle.big_endian.specs.Fixed.{be4, be8, readBe4, readBe8}
+use lib.Seq.{drop-append-le, getD-drop, getD-take}
+use Rattle.big_endian.specs.Fixed.{be4, be8, readBe2, readBe4, readBe8}
 
 pub length-be8 : (x : ℕ) → length (be8 x) ≡ 8
 unfolding be4 be8
@@ -71,8 +71,22 @@ append-be8 s t h =
     ∙ sym (read-whole s h)
 
 -- the bytes at a place of a slice
+pub read-be2-at : (s : List ℕ) (at : ℕ) → readBe2 (drop at s) ≡ getD s at 0 * 2 ^ 8 + getD s (at + 1) 0
+unfolding readBe2
+read-be2-at s at = rw (getD-drop at s 0 0, getD-drop at s 1 0, add-zero at)
+
 pub read-be4-at : (s : List ℕ) (at : ℕ)
     → readBe4 (drop at s)
     ≡ getD s at 0 * 2 ^ 24 + getD s (at + 1) 0 * 2 ^ 16 + getD s (at + 2) 0 * 2 ^ 8 + getD s (at + 3) 0
 unfolding readBe4
 read-be4-at s at = rw (getD-drop at s 0 0, getD-drop at s 1 0, getD-drop at s 2 0, getD-drop at s 3 0, add-zero at)
+
+-- bytes that are cut off behind them do not change what the first two or four say
+pub read-be2-take : (n : ℕ) (w : List ℕ) → 2 ≤ n → readBe2 (take n w) ≡ readBe2 w
+unfolding readBe2
+read-be2-take n w h = rw (getD-take n w 0 0 (omega arith), getD-take n w 1 0 (omega arith))
+
+pub read-be4-take : (n : ℕ) (w : List ℕ) → 4 ≤ n → readBe4 (take n w) ≡ readBe4 w
+unfolding readBe4
+read-be4-take n w h =
+    rw (getD-take n w 0 0 (omega arith), getD-take n w 1 0 (omega arith), getD-take n w 2 0 (omega arith), getD-take n w 3 0 (omega arith))

@@ -8,6 +8,7 @@ use lib.Dec.{ltb, eqb}
 use lib.ListN.{length, drop}
 use Rattle.wal_types.specs.declared.Refusal.the-variants.{BadPlace, TooLong, NoRoom, BadList, WrongKind}
 use Rattle.wal_types.specs.Terms.{offset}
+use Rattle.wal_types.specs.Sizes.{recordLimit}
 use Rattle.wal_types.specs.Deltas.{minus}
 use Rattle.uvarint.specs.Uvarint.{uvarint}
 use Rattle.varint.specs.Varint.{varint}
@@ -30,7 +31,7 @@ gateFor (refused why) = Shut why
 -- an entry of n bytes that belongs in a body of type `want`: BadPlace, WrongKind, BadList, TooLong, NoRoom
 abbrev pub fitting : List ℕ → ℕ → ℕ → Outcome
 fitting b u n =
-    cond (ltb 65536 (u + n)) (refused (TooLong (offset u)))
+    cond (ltb recordLimit (u + n)) (refused (TooLong (offset u)))
     (cond (ltb (length b) (u + n)) (refused (NoRoom (offset u)))
     (used (u + n)))
 
@@ -67,6 +68,6 @@ heads (n ∷ lengths) = length (uvarint n) + heads lengths
 -- how many bytes a list takes: its count, the lengths and the strings' n bytes; one number above 65,536 for every list of more strings or bytes than that
 unfoldable pub listSize : ℕ → List ℕ → ℕ
 listSize n lengths =
-    cond (ltb 65536 (length lengths)) 65537
-    (cond (ltb 65536 n) 65537
+    cond (ltb recordLimit (length lengths)) (recordLimit + 1)
+    (cond (ltb recordLimit n) (recordLimit + 1)
     (length (uvarint (length lengths / 2)) + heads lengths + n))

@@ -1,6 +1,7 @@
 // Building: what decides a start or an addition, and the bytes of an entry at a place that has room for them.
 use crate::lent::put_list;
 use wal_types::Offset;
+use wal_types::RECORD_LIMIT;
 use wal_types::Refusal;
 use wal_types::SeriesId;
 use wal_types::Timestamp;
@@ -16,9 +17,6 @@ ghost use Rattle.wal_types.specs.Deltas.{toBits};
 ghost use Rattle.body_format.specs.Building.{badState, cutTexts, total, rowBytes, entryBytes};
 ghost use Rattle.body_format.specs.Entries.{kindOf, rowsKnown, seriesEntry, tombstoneEntry, metadataEntry};
 ghost use Rattle.body_builder.specs.Sizes.{isKnown, decided, gateFor, deltasIn, rowSize, rowTail, tombstoneSize};
-
-// The longest body: it has to fit in a record.
-pub(crate) const BODY_LIMIT: usize = 65536;
 
 // The bytes of the first row: the first id and timestamp, two deltas of one byte each, and the value.
 const FIRST_ROW: usize = 26;
@@ -94,10 +92,10 @@ pub(crate) fn admit(buffer: &[u8], kind: u8, used: usize, want: u8, bad: bool, s
     if bad {
         return Gate::Shut(Refusal::BadList);
     }
-    if BODY_LIMIT < used {
+    if RECORD_LIMIT < used {
         return Gate::Shut(Refusal::TooLong(Offset(used)));
     }
-    if BODY_LIMIT - used < size {
+    if RECORD_LIMIT - used < size {
         return Gate::Shut(Refusal::TooLong(Offset(used)));
     }
     if buffer.len() - used < size {

@@ -1,5 +1,5 @@
 // Strings as they are lent for building: one slice of bytes, and one of lengths.
-use crate::builder::BODY_LIMIT;
+use wal_types::RECORD_LIMIT;
 ghost use mathlib.Core.Path.{_≡_};
 ghost use Prim.Native.Nat.{_+_, _*_, _≤_};
 ghost use lib.Dec.{eqb};
@@ -39,10 +39,10 @@ fn add_up(lengths: &[u64], size: usize) -> bool
 pub(crate) fn list_size(strings: &[u8], lengths: &[u64]) -> usize
     ensures { λ r. ⌜ (r ≡ listSize (length (now (strings .entry))) (now (lengths .entry))) × (r ≤ 1000000) ⌝ }
 {
-    if BODY_LIMIT < lengths.len() {
+    if RECORD_LIMIT < lengths.len() {
         return 65537;
     }
-    if BODY_LIMIT < strings.len() {
+    if RECORD_LIMIT < strings.len() {
         return 65537;
     }
     let pairs = (lengths.len() / 2) as u64;

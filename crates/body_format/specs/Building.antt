@@ -9,6 +9,7 @@ use lib.Dec.{ltb, leb, eqb}
 use Rattle.wal_types.specs.declared.Refusal.{Refusal}
 use Rattle.wal_types.specs.declared.Refusal.the-variants.{BadPlace, TooLong, NoRoom, UnknownType, BadList, WrongKind}
 use Rattle.wal_types.specs.Terms.{offset}
+use Rattle.wal_types.specs.Sizes.{recordLimit}
 use Rattle.wal_types.specs.Deltas.{minus, toBits}
 use Rattle.uvarint.specs.Uvarint.{uvarint}
 use Rattle.varint.specs.Varint.{varint}
@@ -95,7 +96,7 @@ add b t u e bad =
     cond (badState b t u) (refused BadPlace)
     (cond (not (eqb t (typeByte (kindFor e)))) (refused WrongKind)
     (cond bad (refused BadList)
-    (cond (ltb 65536 (u + length (entryBytes b u e))) (refused (TooLong (offset u)))
+    (cond (ltb recordLimit (u + length (entryBytes b u e))) (refused (TooLong (offset u)))
     (cond (ltb (length b) (u + length (entryBytes b u e))) (refused (NoRoom (offset u)))
     (used (u + length (entryBytes b u e)))))))
 

@@ -13,7 +13,7 @@ use Rattle.body_format.specs.declared.EntryAnswer.the-variants.{Found as
 use Rattle.body_format.specs.declared.StringAnswer.{StringAnswer}
 use Rattle.body_format.specs.declared.StringAnswer.the-variants.{Found as StringFound}
 use Rattle.body_format.specs.Entries.{Entry, seriesEntry, sampleEntry, tombstoneEntry, exemplarEntry, metadataEntry}
-use Rattle.body_format.specs.Reading.{view}
+use Rattle.body_format.specs.Reading.{view, checkBody, readEntry, readString}
 use Rattle.body_format.specs.Building.{cutTexts, badList, Outcome, used, refused, start, startBytes, add, addBytes}
 
 -- ---- building
@@ -98,6 +98,18 @@ EntryReader = List ℕ → ℕ → EntryAnswer
 
 abbrev pub StringReader : Type 0
 StringReader = List ℕ → ℕ → StringAnswer
+
+-- what the claims speak of: starting a body, adding to it, checking it, reading an entry and reading a string
+pub record BodyCalls : Type 0 where
+  pub start : Starter
+  pub add : Builder
+  pub check : Checker
+  pub entry : EntryReader
+  pub string : StringReader
+
+-- document 01's own
+abbrev pub bodyCalls : BodyCalls
+bodyCalls = record { start = starter; add = builder; check = checkBody; entry = readEntry; string = readString }
 
 -- the strings ts are read one after the other from place p on
 abbrev pub Strings : StringReader → List ℕ → ℕ → List (List ℕ) → Type 0

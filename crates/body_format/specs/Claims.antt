@@ -11,21 +11,21 @@ use Rattle.body_format.specs.declared.CheckAnswer.the-variants.{Entries}
 use Rattle.body_format.specs.Fields.{got}
 use Rattle.body_format.specs.Entries.{Kind, known, kindOf, Entry, entries}
 use Rattle.body_format.specs.Reading.{checkBody, readEntry, readString}
-use Rattle.body_format.specs.Building.{used, refused, start, add}
-use Rattle.body_format.specs.Calls.{Addition, addSeries, addSample, addTombstone, addExemplar, addMetadata, entryFor, listIsBad, Starter, Builder, finalBuffer, finalUsed, added, Checker, EntryReader, StringReader, Walks}
+use Rattle.body_format.specs.Building.{used, refused, start}
+use Rattle.body_format.specs.Calls.{Addition, addSeries, addSample, addTombstone, addExemplar, addMetadata, starter, builder, finalBuffer, finalUsed, added, BodyCalls, Walks}
 
 -- DEMAND 1, what it says of lent bytes
-pub record Demand1 (T : Starter) (B : Builder) : Type 0 where
+pub record Demand1 (C : BodyCalls) : Type 0 where
   -- a refusal changes no byte
-  pub start-refused : (b : List ℕ) (t : ℕ) (why : Refusal) → T b t .outcome ≡ refused why → T b t .buffer ≡ b
-  pub add-refused : (b : List ℕ) (t u : ℕ) (a : Addition) (why : Refusal) → B b t u a .outcome ≡ refused why → B b t u a .buffer ≡ b
+  pub start-refused : (b : List ℕ) (t : ℕ) (why : Refusal) → C .start b t .outcome ≡ refused why → C .start b t .buffer ≡ b
+  pub add-refused : (b : List ℕ) (t u : ℕ) (a : Addition) (why : Refusal) → C .add b t u a .outcome ≡ refused why → C .add b t u a .buffer ≡ b
   -- starting a body writes its type byte, and nothing else
-  pub start-byte : (b : List ℕ) (t n : ℕ) → T b t .outcome ≡ used n → T b t .buffer ≡ t ∷ drop 1 b
+  pub start-byte : (b : List ℕ) (t n : ℕ) → C .start b t .outcome ≡ used n → C .start b t .buffer ≡ t ∷ drop 1 b
   -- an addition changes only the bytes from the old place to the new
   pub within : (b : List ℕ) (t u n : ℕ) (a : Addition)
-      → B b t u a .outcome ≡ used n
-      → (u ≤ n) × (n ≤ length b) × (length (B b t u a .buffer) ≡ length b)
-      × (take u (B b t u a .buffer) ≡ take u b) × (drop n (B b t u a .buffer) ≡ drop n b)
+      → C .add b t u a .outcome ≡ used n
+      → (u ≤ n) × (n ≤ length b) × (length (C .add b t u a .buffer) ≡ length b)
+      × (take u (C .add b t u a .buffer) ≡ take u b) × (drop n (C .add b t u a .buffer) ≡ drop n b)
 
 -- the numbers of an addition are of 64 bits, and a metric type is a byte, as the calls' types have them
 abbrev pub InRange : Addition → Type 0
@@ -39,25 +39,29 @@ abbrev pub AllInRange : List Addition → Type 0
 AllInRange [] = Unit {0}
 AllInRange (a ∷ rest) = InRange a × AllInRange rest
 
+-- the bytes of the body that a list of additions makes in buffer b, from a start with type t
+abbrev pub bodyMade : BodyCalls → List ℕ → ℕ → List Addition → List ℕ
+bodyMade C b t xs = take (finalUsed (C .add) t (C .start b t .buffer) 1 xs) (finalBuffer (C .add) t (C .start b t .buffer) 1 xs)
+
 -- DEMAND 2, for bodies
-pub record Demand2 (T : Starter) (B : Builder) (C : Checker) (E : EntryReader) (S : StringReader) : Type 0 where
-  -- starting and adding are refused exactly where document 01 says, and with its refusal
-  pub starts : (b : List ℕ) (t : ℕ) → T b t .outcome ≡ start b t
-  pub adds : (b : List ℕ) (t u : ℕ) (a : Addition) → B b t u a .outcome ≡ add b t u (entryFor a) (listIsBad a)
+pub record Demand2 (C : BodyCalls) : Type 0 where
+  -- starting and adding come to what document 01 says, refused exactly where it says, and leave the buffer as it says, byte for byte
+  pub starts : (b : List ℕ) (t : ℕ) → C .start b t ≡ starter b t
+  pub adds : (b : List ℕ) (t u : ℕ) (a : Addition) → C .add b t u a ≡ builder b t u a
   -- the count is the length of the list that the definition reads, and every fault is the definition's first
-  pub counts : (s : List ℕ) → C s ≡ checkBody s
+  pub counts : (s : List ℕ) → C .check s ≡ checkBody s
   -- an entry and a string are read at a place as the definition says
-  pub reads : (s : List ℕ) (p : ℕ) → E s p ≡ readEntry s p
-  pub strings : (s : List ℕ) (p : ℕ) → S s p ≡ readString s p
+  pub reads : (s : List ℕ) (p : ℕ) → C .entry s p ≡ readEntry s p
+  pub strings : (s : List ℕ) (p : ℕ) → C .string s p ≡ readString s p
   -- reading an entry at each place in turn walks exactly that list
   pub walks : (b : ℕ) (s : List ℕ) (k : Kind) (es : List Entry) (p : ℕ)
       → kindOf b ≡ known k
       → entries k (b ∷ s) ≡ got es p
-      → Walks E S (b ∷ s) 1 es
+      → Walks (C .entry) (C .string) (b ∷ s) 1 es
   -- every body that is built reads back as the entries put in, by the check and by a walk: for every list of additions to a started body, refused ones
   -- included, in any buffer
   pub back : (b : List ℕ) (t : ℕ) (xs : List Addition)
       → AllInRange xs
       → start b t ≡ used 1
-      → (C (take (finalUsed B t (T b t .buffer) 1 xs) (finalBuffer B t (T b t .buffer) 1 xs)) ≡ Entries (length (added B t (T b t .buffer) 1 xs)))
-      × Walks E S (take (finalUsed B t (T b t .buffer) 1 xs) (finalBuffer B t (T b t .buffer) 1 xs)) 1 (added B t (T b t .buffer) 1 xs)
+      → (C .check (bodyMade C b t xs) ≡ Entries (length (added (C .add) t (C .start b t .buffer) 1 xs)))
+      × Walks (C .entry) (C .string) (bodyMade C b t xs) 1 (added (C .add) t (C .start b t .buffer) 1 xs)

@@ -6,16 +6,15 @@ use Prim.Native.Nat.{ℕ, _+_, _≤_}
 use native.Mathlib.Omega.{arith}
 use lib.ListN.{length}
 use lib.Seq.{length-sets}
-use Rattle.body_format.specs.Reading.{checkBody, readEntry, readString}
 use Rattle.body_format.specs.Building.{entryBytes, start, startBytes, addBytes}
-use Rattle.body_format.specs.Calls.{entryFor, listIsBad, starter, builder}
+use Rattle.body_format.specs.Calls.{entryFor, listIsBad, bodyCalls}
 use Rattle.body_format.specs.Claims.{Demand1, Demand2}
 use Rattle.body_format.specs.Laws.Additions.{accepted, start-bytes, sets-before, sets-after}
 use Rattle.body_format.specs.Laws.Walks.{entries-walk}
 use Rattle.body_format.specs.Laws.Built.{body-checks, body-walks, started, built}
 
 -- lent bytes
-pub demand1 : Demand1 starter builder
+pub demand1 : Demand1 bodyCalls
 demand1 = record {
   start-refused = λ b t why e. ap (λ o. startBytes o b t) e;
   add-refused = λ b t u a why e. ap (λ o. addBytes o b u (entryFor a)) e;
@@ -28,7 +27,7 @@ demand1 = record {
 }
 
 -- refusals, counts, walks, and reading back what was built
-pub demand2 : Demand2 starter builder checkBody readEntry readString
+pub demand2 : Demand2 bodyCalls
 demand2 = record {
   starts = λ b t. refl;
   adds = λ b t u a. refl;

@@ -7,6 +7,7 @@ use Prim.Native.Nat.{ℕ}
 use lib.ListN.{length, drop}
 use lib.Dec.{leb}
 use Rattle.wal_types.specs.declared.Refusal.the-variants.{UnknownType, EmptyBody, ListFull, WrongKind}
+use Rattle.wal_types.specs.Refusals.{numberOf, placeOf}
 use Rattle.body_format.specs.Fields.{Field, got, fault}
 use Rattle.body_format.specs.Entries.{Known, known, unknown, kindOf, series, samples, tombstones, exemplars, metadata, Entry, entries}
 use Rattle.body_format.specs.Reading.{view}
@@ -35,6 +36,15 @@ samplesIn (b ∷ s) = samplesKnown (kindOf b) (b ∷ s)
 abbrev pub fillAnswer : Field (List Entry) → ℕ → FillAnswer
 fillAnswer (got es p) room = cond (leb (length es) room) (Filled (length es)) (Refused ListFull)
 fillAnswer (fault why) room = Refused why
+
+-- document 01's number for an answer, 0 where the list is filled; and its value, how many samples are filled, or the refusal's place
+abbrev pub fillNumber : FillAnswer → ℕ
+fillNumber (Filled n) = 0
+fillNumber (Refused why) = numberOf why
+
+abbrev pub fillValue : FillAnswer → ℕ
+fillValue (Filled n) = n
+fillValue (Refused why) = placeOf why .0
 
 -- the list l afterwards: the samples in order, then the rest as it was; after a refusal as it was
 abbrev pub listAfter : Field (List Entry) → List Sample → List Sample

@@ -10,7 +10,7 @@ ghost use mathlib.Core.Path.{_≡_};
 ghost use Prim.Native.Nat.{_≤_};
 ghost use lib.ListN.{length};
 ghost use Rattle.body_format.specs.Reading.{checkFields};
-ghost use Rattle.samples.specs.Filling.{samplesIn, fillAnswer, listAfter};
+ghost use Rattle.samples.specs.Filling.{samplesIn, fillAnswer, fillNumber, fillValue, listAfter};
 ghost use Rattle.samples.specs.Rows.{noRow, rowOf, rowAt, fillWith, fillCount};
 
 // An id, a time and the value's 64 bits.
@@ -47,6 +47,29 @@ pub fn fill(body: &[u8], list: &mut [Sample]) -> FillAnswer
     let plan = plan_fill(body, list.len());
     fill_rows(body, plan.count, list);
     plan.answer
+}
+
+// Document 01's number for an answer; 0 where the list is filled.
+pub fn fill_number(answer: FillAnswer) -> u32
+    ensures { λ r. ⌜ r ≡ fillNumber answer ⌝ }
+{
+    match answer {
+        FillAnswer::Filled(_) => 0,
+        FillAnswer::Refused(why) => wal_types::number(why),
+    }
+}
+
+// The value of an answer: how many samples are filled, or the refusal's place.
+pub fn fill_value(answer: FillAnswer) -> usize
+    ensures { λ r. ⌜ r ≡ fillValue answer ⌝ }
+{
+    match answer {
+        FillAnswer::Filled(count) => count,
+        FillAnswer::Refused(why) => {
+            let place = wal_types::place(why);
+            place.0
+        }
+    }
 }
 
 // How many samples a body holds, or why it is refused.

@@ -1,7 +1,6 @@
 // The lines on standard output. Every number is decimal, with one space before it.
 use samples::FillAnswer;
 use samples::Sample;
-use wal_types::Refusal;
 
 fn text(bytes: &[u8]) {
     io::write_all(1, bytes);
@@ -28,24 +27,15 @@ pub(crate) fn answered(length: usize, answer: FillAnswer) {
     text(b"fill");
     number(length as u64);
     text(b" ->");
-    match answer {
-        FillAnswer::Filled(count) => filled(count),
-        FillAnswer::Refused(why) => refused(why),
+    let refusal = samples::fill_number(answer);
+    if refusal == 0 {
+        text(b" filled");
+    } else {
+        text(b" refused");
+        number(refusal as u64);
     }
-}
-
-fn filled(count: usize) {
-    text(b" filled");
-    number(count as u64);
-    text(b"\n");
-}
-
-fn refused(why: Refusal) {
-    text(b" refused");
-    let n = wal_types::number(why);
-    number(n as u64);
-    let place = wal_types::place(why);
-    number(place.0 as u64);
+    let value = samples::fill_value(answer);
+    number(value as u64);
     text(b"\n");
 }
 

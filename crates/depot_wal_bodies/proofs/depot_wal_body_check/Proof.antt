@@ -1,0 +1,16 @@
+-- The call's promise is that of the call it passes on.
+-- Assumes nothing.
+use borrow.Author.Needs.{needs}
+use mathlib.Core.Path.{ap, _∙_}
+use Rattle.c_answers.specs.Bodies.{checkCode, checkOut}
+use Rattle.depot_wal_bodies.proofs.depot_wal_body_check.Statement.{statement}
+use Rattle.depot_wal_bodies.proofs.depot_wal_body_check.Tie as tie
+
+returns : tie.Need-returns
+returns c =
+    let told = c .tell-check .ensures in
+    let done = c .before .before .check .ensures in
+    (told .0 ∙ ap checkCode done, told .1 ∙ ap checkOut done)
+
+pub depot-wal-body-check-spec : {M : Type 1} → statement M
+depot-wal-body-check-spec = tie.close (tie.spec (λ c κs. search needs) (λ c κs. search needs) returns)

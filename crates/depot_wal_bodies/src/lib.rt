@@ -1,0 +1,185 @@
+// The calls with C names that build and read record bodies. Numbers and slices of numbers pass; a slice passes as a pointer and a length, a fixed array
+// as a pointer, a body's state as its type and the bytes used. include/depot_wal.h says the same for C. Nothing in the crates calls these: they are the
+// way in from outside. tools/archive joins them with those of depot_wal_segments.
+ghost use mathlib.Core.Path.{_≡_};
+ghost use Rattle.body_format.specs.Reading.{checkBody, readEntry, readString};
+ghost use Rattle.body_format.specs.Calls.{starter, builder, addSeries, addSample, addTombstone, addExemplar, addMetadata};
+ghost use Rattle.body_builder.specs.Answers.{addedOf};
+ghost use Rattle.c_answers.specs.Bodies.{addedCode, addedOut, checkCode, checkOut, entryCode, entryOut, stringCode, stringOut};
+use body_builder::Body;
+use c_answers::tell_added;
+use c_answers::tell_check;
+use c_answers::tell_entry;
+use c_answers::tell_string;
+use wal_types::Offset;
+use wal_types::SeriesId;
+use wal_types::Timestamp;
+
+// Starts a body of a type.
+#[no_mangle]
+pub extern "C" fn depot_wal_body_start(buffer: &mut [u8], kind: u8, out: &mut [u64; 2]) -> u32
+    ensures { λ r. ⌜
+        (r ≡ addedCode (addedOf kind (starter (now (buffer .entry)) kind .outcome)))
+        × (now (out .exit) ≡ addedOut 0 (addedOf kind (starter (now (buffer .entry)) kind .outcome)))
+        × (now (buffer .exit) ≡ starter (now (buffer .entry)) kind .buffer) ⌝ }
+{
+    let answer = Body::start(buffer, kind);
+    tell_added(answer, 0, out)
+}
+
+// Adds a series: its id, and its labels as one slice of bytes and one of lengths.
+#[no_mangle]
+pub extern "C" fn depot_wal_add_series(
+    buffer: &mut [u8],
+    kind: u8,
+    used: usize,
+    id: u64,
+    strings: &[u8],
+    lengths: &[u64],
+    out: &mut [u64; 2],
+) -> u32
+    ensures { λ r. ⌜
+        (r ≡ addedCode (addedOf kind (builder (now (buffer .entry)) kind used (addSeries id (now (strings .entry)) (now (lengths .entry))) .outcome)))
+        × (now (out .exit) ≡ addedOut used (addedOf kind (builder (now (buffer .entry)) kind used (addSeries id (now (strings .entry)) (now (lengths .entry))) .outcome)))
+        × (now (buffer .exit) ≡ builder (now (buffer .entry)) kind used (addSeries id (now (strings .entry)) (now (lengths .entry))) .buffer) ⌝ }
+{
+    let state = Body {
+        kind,
+        used: Offset(used),
+    };
+    let answer = state.add_series(buffer, SeriesId(id), strings, lengths);
+    tell_added(answer, used, out)
+}
+
+// Adds a sample.
+#[no_mangle]
+pub extern "C" fn depot_wal_add_sample(
+    buffer: &mut [u8],
+    kind: u8,
+    used: usize,
+    id: u64,
+    time: i64,
+    bits: u64,
+    out: &mut [u64; 2],
+) -> u32
+    ensures { λ r. ⌜
+        (r ≡ addedCode (addedOf kind (builder (now (buffer .entry)) kind used (addSample id time bits) .outcome)))
+        × (now (out .exit) ≡ addedOut used (addedOf kind (builder (now (buffer .entry)) kind used (addSample id time bits) .outcome)))
+        × (now (buffer .exit) ≡ builder (now (buffer .entry)) kind used (addSample id time bits) .buffer) ⌝ }
+{
+    let state = Body {
+        kind,
+        used: Offset(used),
+    };
+    let answer = state.add_sample(buffer, SeriesId(id), Timestamp(time), bits);
+    tell_added(answer, used, out)
+}
+
+// Adds a tombstone.
+#[no_mangle]
+pub extern "C" fn depot_wal_add_tombstone(
+    buffer: &mut [u8],
+    kind: u8,
+    used: usize,
+    id: u64,
+    min: i64,
+    max: i64,
+    out: &mut [u64; 2],
+) -> u32
+    ensures { λ r. ⌜
+        (r ≡ addedCode (addedOf kind (builder (now (buffer .entry)) kind used (addTombstone id min max) .outcome)))
+        × (now (out .exit) ≡ addedOut used (addedOf kind (builder (now (buffer .entry)) kind used (addTombstone id min max) .outcome)))
+        × (now (buffer .exit) ≡ builder (now (buffer .entry)) kind used (addTombstone id min max) .buffer) ⌝ }
+{
+    let state = Body {
+        kind,
+        used: Offset(used),
+    };
+    let answer = state.add_tombstone(buffer, SeriesId(id), Timestamp(min), Timestamp(max));
+    tell_added(answer, used, out)
+}
+
+// Adds an exemplar: a sample's row, and its labels.
+#[no_mangle]
+pub extern "C" fn depot_wal_add_exemplar(
+    buffer: &mut [u8],
+    kind: u8,
+    used: usize,
+    id: u64,
+    time: i64,
+    bits: u64,
+    strings: &[u8],
+    lengths: &[u64],
+    out: &mut [u64; 2],
+) -> u32
+    ensures { λ r. ⌜
+        (r ≡ addedCode (addedOf kind (builder (now (buffer .entry)) kind used (addExemplar id time bits (now (strings .entry)) (now (lengths .entry))) .outcome)))
+        × (now (out .exit) ≡ addedOut used (addedOf kind (builder (now (buffer .entry)) kind used (addExemplar id time bits (now (strings .entry)) (now (lengths .entry))) .outcome)))
+        × (now (buffer .exit) ≡ builder (now (buffer .entry)) kind used (addExemplar id time bits (now (strings .entry)) (now (lengths .entry))) .buffer) ⌝ }
+{
+    let state = Body {
+        kind,
+        used: Offset(used),
+    };
+    let answer = state.add_exemplar(
+        buffer,
+        SeriesId(id),
+        Timestamp(time),
+        bits,
+        strings,
+        lengths,
+    );
+    tell_added(answer, used, out)
+}
+
+// Adds the metadata of a series: its metric type, and names and texts.
+#[no_mangle]
+pub extern "C" fn depot_wal_add_metadata(
+    buffer: &mut [u8],
+    kind: u8,
+    used: usize,
+    id: u64,
+    metric_type: u8,
+    strings: &[u8],
+    lengths: &[u64],
+    out: &mut [u64; 2],
+) -> u32
+    ensures { λ r. ⌜
+        (r ≡ addedCode (addedOf kind (builder (now (buffer .entry)) kind used (addMetadata id «metric_type» (now (strings .entry)) (now (lengths .entry))) .outcome)))
+        × (now (out .exit) ≡ addedOut used (addedOf kind (builder (now (buffer .entry)) kind used (addMetadata id «metric_type» (now (strings .entry)) (now (lengths .entry))) .outcome)))
+        × (now (buffer .exit) ≡ builder (now (buffer .entry)) kind used (addMetadata id «metric_type» (now (strings .entry)) (now (lengths .entry))) .buffer) ⌝ }
+{
+    let state = Body {
+        kind,
+        used: Offset(used),
+    };
+    let answer = state.add_metadata(buffer, SeriesId(id), metric_type, strings, lengths);
+    tell_added(answer, used, out)
+}
+
+// Checks a body: how many entries it has, or its first fault.
+#[no_mangle]
+pub extern "C" fn depot_wal_body_check(bytes: &[u8], out: &mut [u64; 1]) -> u32
+    ensures { λ r. ⌜ (r ≡ checkCode (checkBody (now (bytes .entry)))) × (now (out .exit) ≡ checkOut (checkBody (now (bytes .entry)))) ⌝ }
+{
+    let answer = body::check(bytes);
+    tell_check(answer, out)
+}
+
+// Reads the entry at a place.
+#[no_mangle]
+pub extern "C" fn depot_wal_entry_at(bytes: &[u8], place: usize, out: &mut [u64; 8]) -> u32
+    ensures { λ r. ⌜ (r ≡ entryCode (readEntry (now (bytes .entry)) place)) × (now (out .exit) ≡ entryOut (readEntry (now (bytes .entry)) place)) ⌝ }
+{
+    let answer = body::entry_at(bytes, Offset(place));
+    tell_entry(answer, out)
+}
+
+// Reads the string at a place: where its bytes start, and how many they are.
+#[no_mangle]
+pub extern "C" fn depot_wal_string_at(bytes: &[u8], place: usize, out: &mut [u64; 2]) -> u32
+    ensures { λ r. ⌜ (r ≡ stringCode (readString (now (bytes .entry)) place)) × (now (out .exit) ≡ stringOut (readString (now (bytes .entry)) place)) ⌝ }
+{
+    let answer = body::string_at(bytes, Offset(place));
+    tell_string(answer, out)
+}
