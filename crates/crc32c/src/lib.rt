@@ -2,6 +2,8 @@
 // fills once and lends. Long data is folded by two sparse multiples of the polynomial, one after the other, which needs no table.
 mod nibbles;
 
+use numbers::smaller;
+use numbers::wide32;
 ghost use mathlib.Core.Path.{_≡_};
 ghost use Prim.Native.Nat.{_+_, _-_, _*_, _/_, _%_, _<_, _≤_, min};
 ghost use lib.ListN.{length, take, drop};
@@ -11,6 +13,9 @@ ghost use Rattle.crc32c_format.specs.Bytes.{littleEndian};
 ghost use Rattle.crc32c_format.specs.Table.{nibbleTable};
 ghost use Rattle.crc32c_format.specs.Lent.{lookUp2, lookUp4, tableStep1, tableStep4, tableStep8, steps, eightsEnd, foursEnd, tableRegister, sumBy};
 ghost use Rattle.crc32c_format.specs.Method.Fold.{onto290, onto130, taps, Folded, Slid, Cleared, Rest};
+
+// Lent where the caller lends none: too short to be used.
+pub const NO_TABLE: [u32; 1] = [0];
 
 // From so many bytes on the data is folded, which needs no table.
 const LONG: usize = 512;
@@ -29,12 +34,6 @@ fn load4(s: &[u8], at: usize) -> u32
     ensures { λ r. ⌜ r ≡ littleEndian (take 4 (drop at (now (s .entry)))) ⌝ }
 {
     (load2(s, at) as u32) + (load2(s, at + 2) as u32) * 0x1_0000
-}
-
-fn wide(byte: u8) -> u32
-    ensures { λ r. ⌜ (r ≡ byte) × (r < 256) ⌝ }
-{
-    byte as u32
 }
 
 // ---- by the small table
@@ -89,10 +88,10 @@ fn four_alone(t: &[u32; 256], s: &[u8], at: usize) -> u32
     requires { ⌜ (now t ≡ nibbleTable) × (at + 4 ≤ length (now s)) ⌝ }
     ensures { λ r. ⌜ r ≡ bitSteps 32 (littleEndian (take 4 (drop at (now (s .entry))))) ⌝ }
 {
-    let a = left1(t, 6, wide(s[at]));
-    let b = left1(t, 4, wide(s[at + 1]));
-    let c = left1(t, 2, wide(s[at + 2]));
-    let d = left1(t, 0, wide(s[at + 3]));
+    let a = left1(t, 6, wide32(s[at]));
+    let b = left1(t, 4, wide32(s[at + 1]));
+    let c = left1(t, 2, wide32(s[at + 2]));
+    let d = left1(t, 0, wide32(s[at + 3]));
     a ^ b ^ c ^ d
 }
 
@@ -266,12 +265,6 @@ fn after_rest(m: &[u8]) -> u32
     let mut r = [0u8; 130];
     rest_again(&mut r, &y[160..], &m[160..]);
     short(0, &r)
-}
-
-fn smaller(a: usize, b: usize) -> usize
-    ensures { λ r. ⌜ r ≡ min a b ⌝ }
-{
-    if a < b { a } else { b }
 }
 
 // The register after the bytes of a slice, for long data: all but the last 290 are folded onto those, and those onto their last 130.

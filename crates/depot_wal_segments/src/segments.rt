@@ -1,7 +1,7 @@
 // Reading and writing one segment.
 ghost use mathlib.Core.Path.{_≡_};
 ghost use Rattle.segment_format.specs.Calls.{reader, writer};
-ghost use Rattle.segment.specs.Sums.{crcSum, lentSum};
+ghost use Rattle.segment_format.specs.Sums.{crcSum, lentSum};
 ghost use Rattle.c_answers.specs.Segments.{readCode, readOut, writeCode, writeOut};
 use c_answers::tell_read;
 use c_answers::tell_write;
@@ -21,7 +21,7 @@ fn read_and_tell(
         × (now (out .exit) ≡ readOut (reader (lentSum (now (table .entry))) (now (segment .entry)) place (now (buffer .entry)) .answer))
         × (now (buffer .exit) ≡ reader (lentSum (now (table .entry))) (now (segment .entry)) place (now (buffer .entry)) .buffer) ⌝ }
 {
-    let answer = segment::read_with_table(&table[0..], &segment[0..], Offset(place), buffer);
+    let answer = segment_reader::read_with_table(&table[0..], &segment[0..], Offset(place), buffer);
     tell_read(answer, out)
 }
 
@@ -60,7 +60,7 @@ pub extern "C" fn depot_wal_write(
         × (now (out .exit) ≡ writeOut place (writer crcSum (now (segment .entry)) place (now («record» .entry)) .answer))
         × (now (segment .exit) ≡ writer crcSum (now (segment .entry)) place (now («record» .entry)) .slice) ⌝ }
 {
-    write_and_tell(&segment::NO_TABLE, segment, place, record, out)
+    write_and_tell(&crc32c::NO_TABLE, segment, place, record, out)
 }
 
 // Reads the record at a place into the buffer.
@@ -76,7 +76,7 @@ pub extern "C" fn depot_wal_read(
         × (now (out .exit) ≡ readOut (reader crcSum (now (segment .entry)) place (now (buffer .entry)) .answer))
         × (now (buffer .exit) ≡ reader crcSum (now (segment .entry)) place (now (buffer .entry)) .buffer) ⌝ }
 {
-    read_and_tell(&segment::NO_TABLE, segment, place, buffer, out)
+    read_and_tell(&crc32c::NO_TABLE, segment, place, buffer, out)
 }
 
 // `depot_wal_write` with the checksum's table lent.

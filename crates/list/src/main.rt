@@ -22,7 +22,7 @@ fn list(segment: &[u8], buffer: &mut [u8]) {
     let mut place = 0;
     let mut count: u64 = 0;
     while place <= segment.len() {
-        let answer = segment::read(segment, Offset(place), buffer);
+        let answer = segment_reader::read(segment, Offset(place), buffer);
         match answer {
             ReadAnswer::Record {
                 start,

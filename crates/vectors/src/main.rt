@@ -1,13 +1,12 @@
 // Runs outside vectors and document 01's numbers through the library. The second program writes what this has to print.
-mod numbers;
-mod print;
+mod fields;
 mod segments;
 
 fn main() {
-    numbers::checksums();
-    numbers::uvarints();
-    numbers::varints();
-    numbers::readings();
+    fields::checksums();
+    fields::uvarints();
+    fields::varints();
+    fields::readings();
     segments::writes();
     segments::types();
     segments::cuts();

@@ -2,7 +2,7 @@
 ghost use mathlib.Core.Path.{_≡_};
 ghost use Prim.Native.Nat.{_<_};
 ghost use lib.ListN.{length};
-use crate::print;
+use numbers::wide;
 use segment_format::ReadAnswer;
 use segment_format::WriteAnswer;
 use wal_types::Offset;
@@ -169,12 +169,6 @@ fn header_at(slice: &[u8], place: usize) -> Header {
     }
 }
 
-fn wide(b: u8) -> usize
-    ensures { λ r. ⌜ r < 256 ⌝ }
-{
-    b as usize
-}
-
 // The headers from a place on, up to a full or last one; no record has more than four.
 fn fragments(slice: &[u8], place: usize) {
     let mut at = place;
@@ -232,7 +226,7 @@ fn type_line(kind: u8) {
     print::text(b"type ");
     io::print_hex(1, kind as u64, 2);
     print::text(b" -> ");
-    let answer = segment::read(&segment, Offset(0), &mut buffer);
+    let answer = segment_reader::read(&segment, Offset(0), &mut buffer);
     answer_line(answer);
 }
 
@@ -315,7 +309,7 @@ fn cut(slice: &[u8], count: usize, buffer: &mut [u8]) {
     if slice.len() < count {
         return;
     }
-    let answer = segment::read(&slice[..count], Offset(0), buffer);
+    let answer = segment_reader::read(&slice[..count], Offset(0), buffer);
     cut_line(count, answer);
     match answer {
         ReadAnswer::Record {
@@ -323,7 +317,7 @@ fn cut(slice: &[u8], count: usize, buffer: &mut [u8]) {
             length: _,
             next,
         } => {
-            let then = segment::read(&slice[..count], next, buffer);
+            let then = segment_reader::read(&slice[..count], next, buffer);
             cut_line(count, then);
         }
         ReadAnswer::End => {}

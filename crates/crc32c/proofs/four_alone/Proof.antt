@@ -13,10 +13,10 @@ returns c =
     let b1 = b2 .before .before .before in
     let a = b1 .before .before .before .before .args in
     left-four (a .s .now) (a .at) (search needs)
-    (b1 .left1 .ensures ∙ ap (bitSteps 32) (b1 .before .wide .ensures .0))
-    (b2 .left12 .ensures ∙ ap (bitSteps 24) (b2 .before .wide2 .ensures .0))
-    (b3 .left13 .ensures ∙ ap (bitSteps 16) (b3 .before .wide3 .ensures .0))
-    (c .left14 .ensures ∙ ap (bitSteps 8) (c .before .wide4 .ensures .0))
+    (b1 .left1 .ensures ∙ ap (bitSteps 32) (b1 .before .wide32 .ensures .0))
+    (b2 .left12 .ensures ∙ ap (bitSteps 24) (b2 .before .wide322 .ensures .0))
+    (b3 .left13 .ensures ∙ ap (bitSteps 16) (b3 .before .wide323 .ensures .0))
+    (c .left14 .ensures ∙ ap (bitSteps 8) (c .before .wide324 .ensures .0))
 
 pub four-alone-spec : {M : Type 1} → statement M
 four-alone-spec =

@@ -7,7 +7,7 @@ use borrow.Author.Tests.{eq-eqb, ne-eqb}
 use mir.Facts.{toZ-ofZ, toZ-pos}
 use mir.Syntax.{w64}
 use Rattle.varint.specs.Varint.{unzigzag}
-use Rattle.varint.proofs.Signs.{minus-pos}
+use Rattle.numbers.specs.Signs.{minus-pos}
 use Rattle.varint.proofs.zigzag_back.Statement.{statement}
 use Rattle.varint.proofs.zigzag_back.Tie as tie
 

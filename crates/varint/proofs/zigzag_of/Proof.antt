@@ -2,7 +2,7 @@
 use native.Mathlib.Omega.{arith}
 use mathlib.Core.Path.{sym, ap}
 use Rattle.varint.specs.Varint.{zigzag}
-use Rattle.varint.proofs.Signs.{read-pos, read-neg, x-pos, x-neg, mag-fits, bits-pos}
+use Rattle.numbers.specs.Signs.{read-pos, read-neg, x-pos, x-neg, mag-fits, bits-pos}
 use Rattle.varint.proofs.zigzag_of.Statement.{statement}
 use Rattle.varint.proofs.zigzag_of.Tie as tie
 

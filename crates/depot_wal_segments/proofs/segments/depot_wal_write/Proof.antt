@@ -3,7 +3,7 @@
 use borrow.Author.Needs.{needs}
 use mathlib.Core.List.{[], _∷_}
 use native.Mathlib.Omega.{arith}
-use Rattle.segment.specs.Kept.{none-lent}
+use Rattle.segment_format.specs.Kept.{none-lent}
 use Rattle.depot_wal_segments.proofs.segments.depot_wal_write.Statement.{statement}
 use Rattle.depot_wal_segments.proofs.segments.depot_wal_write.Tie as tie
 

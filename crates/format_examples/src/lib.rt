@@ -1,0 +1,1 @@
+// No code: the worked examples of the format, proved as one table (specs/Examples.antt).

@@ -1,0 +1,47 @@
+// Words of an output line, on standard output. No contract can say what is written, and these
+// functions answer nothing: what they print is tested through the programs that call them.
+use numbers::wide64;
+
+pub fn text(bytes: &[u8]) {
+    io::write_all(1, bytes);
+}
+
+pub fn space() {
+    text(b" ");
+}
+
+pub fn end_line() {
+    text(b"\n");
+}
+
+pub fn number(n: u64) {
+    io::print_decimal(1, n);
+}
+
+// A space and a number, as most lines have them.
+pub fn field(n: u64) {
+    space();
+    number(n);
+}
+
+// A signed number, given by its zigzag: the sign is the lowest bit, the magnitude is above it.
+pub fn signed(zigzag: u64) {
+    let magnitude = zigzag / 2;
+    if zigzag % 2 == 0 {
+        number(magnitude);
+    } else {
+        text(b"-");
+        number(magnitude + 1);
+    }
+}
+
+// The first n bytes of a slice, two digits each.
+pub fn bytes(s: &[u8], n: usize) {
+    let mut i = 0;
+    while i < s.len() {
+        if i < n {
+            io::print_hex(1, wide64(s[i]), 2);
+        }
+        i += 1;
+    }
+}
