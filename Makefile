@@ -5,13 +5,14 @@
 
 export CARGO_TARGET_DIR := $(CURDIR)/build/cargo
 ARCHIVE := target/staticlib/libdepot_wal.a
-CFLAGS := -std=c99 -Wall -Wextra -Werror -O2 -Iinclude
+CFLAGS := -std=c99 -Wall -Wextra -Wpedantic -Werror -O2 -Iinclude
 
 SOURCES := crates.txt tools/archive $(shell find crates -type f)
 
 .PHONY: demo test bench valgrind clean
 
 demo: $(ARCHIVE)
+	@mkdir -p build
 	@gcc $(CFLAGS) examples/switch.c $(ARCHIVE) -o build/switch
 	@build/switch
 
@@ -23,6 +24,7 @@ bench: $(ARCHIVE)
 	@build/cargo/release/bench
 
 valgrind: $(ARCHIVE)
+	@mkdir -p build
 	@gcc $(CFLAGS) -g tests/c/calls.c $(ARCHIVE) -o build/calls
 	@valgrind --quiet --error-exitcode=1 build/calls
 	@for f in fixtures/*_00000000 $(ARCHIVE) Makefile; do \
