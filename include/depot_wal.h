@@ -1,46 +1,62 @@
-/* A proved write-ahead log in the Prometheus format, for programs in C.
+/* A proved write-ahead log in the Prometheus format, for programs in C (docs/CLAIMS.md says what is
+ * proved).
  *
- * One segment lies in a buffer that the caller lends. Records of 0 to 65,536 bytes are written into it and read back, and five
- * kinds of record bodies are built and read. docs/FORMAT.md draws the bytes; examples/switch.c is a whole program. The archive is
- * for Linux on x86-64; beside the caller's memory it needs `memset`.
+ * A segment is a caller-owned buffer. Records of 0 to 65,536 bytes are written into it and read
+ * back, and five types of record bodies are encoded and decoded. docs/FORMAT.md draws the bytes;
+ * examples/switch.c is a whole program. The archive is for Linux on x86-64; beside the caller's
+ * memory it needs `memset`.
  *
  * What a call returns
- *   0     it did what was asked
- *   200   an end: there is nothing more to read (no refusal)
- *   else  a refusal, one of enum depot_wal_number
+ *   DEPOT_WAL_DONE (0)  no error: the result is in *out
+ *   DEPOT_WAL_END       there is nothing more to read; this is no error either
+ *   otherwise           an error; depot_wal_status_text has a text for it. The comment of each call
+ *                       lists its errors in the order in which they are checked.
  *
- * What stands in `out` afterwards (it is always written whole)
- *   A call that reads: the values named at the call. Refused: the place, then zeros. At an end: zeros.
- *   A call that writes: out[0] is what the next call is to be given. After a refusal that is the place, or the bytes used, that
- *   this call was given (0 when starting a body). out[1] is the place of the refusal, else 0. So always go on with out[0].
- *   A refusal or an end changes no other lent byte.
+ * What is in *out afterwards (every field is always written)
+ *   A call that reads: the fields as the struct names them. On an error the first field is the
+ *   place of the error and the others are 0; at an end all are 0.
+ *   A call that writes: the first field, `next` or `used`, is what to pass to the next call. On an
+ *   error that is the value which this call was given (0 when starting a body), so always go on
+ *   with it. `error_at` is the place of the error, else 0.
+ *   A place is an offset in the segment or in the body.
+ *   On an error or at an end nothing but *out has changed.
  *
  * What the caller owes
- *   - Every pointer is good for its length, `out` and `table` for the length in their declaration, and aligned for its type.
- *     NULL with length 0 is an empty slice. `out` and `table` are never NULL.
- *   - What a call may write (the segment of a write, the buffer, `out`, the table to be filled) does not overlap anything else
- *     that is lent to the same call.
- *   - Nobody else writes what is lent while a call runs.
- *   Nothing more: every byte, place, length, type and number gets an answer.
+ *   - Every pointer is valid for its length, `out` and `table` for their declared size, and aligned
+ *     for its type. A pointer whose length is 0 may be NULL. `out` and `table` are never NULL.
+ *   - What a call may write (the segment of a write, the buffer, `out`, the table to be filled)
+ *     does not overlap anything else that is passed to the same call.
+ *   - Nobody else writes any of this memory while the call runs.
+ *   Nothing more: any bytes, place, length, type and number get a defined result.
  *
  * What the library promises
- *   - It never traps, and it touches nothing but what it was lent.
- *   - It allocates nothing and keeps nothing between calls, so calls may run at the same time where none of them writes what
- *     another one is lent: a table, or a segment that is only read, may be shared.
- *   - Seen, not proved: no call takes 5 KiB of stack or more, and none recurses.
+ *   - It never traps, and it touches no memory but what it is passed.
+ *   - Records and entries that were written read back the same. After a power failure exactly the
+ *     records that are whole come back, then DEPOT_WAL_TORN or DEPOT_WAL_END; the next section says
+ *     what the caller does for that.
+ *   - It allocates nothing and keeps nothing between calls. So calls may run at the same time where
+ *     none of them writes memory that another one uses: a table, or a segment that is only read,
+ *     may be shared.
+ *   - Seen in the machine code, not proved: every call takes less than 5 KiB of stack, and none
+ *     recurses.
  *
  * From memory to the medium
- *   A call works on memory, and a write stores its bytes there in no promised order. Bring the bytes from the old place to the new
- *   one to the medium yourself, in the order of their offsets. The promise about a power cut (docs/FORMAT.md) is about bytes that
- *   were put down in that order, and about reading exactly those that stand: lend their number as segment_len, not the size of a
- *   file that was made long beforehand.
+ *   A call works on memory, and a write stores its bytes there in no promised order. The caller
+ *   brings the bytes from the old place to the new one to the medium, in the order of their
+ *   offsets. The promise about a power failure (docs/FORMAT.md) is about bytes that were stored in
+ *   that order, and about reading exactly those that are there: pass their number as segment_len,
+ *   not the size of a file that was made long beforehand.
  *
- * Starting again after a cut (examples/switch.c does it)
- *   Read from place 0 until a read does not return 0. It returns
- *   12    Go on writing at the place told, over the unfinished record. Cut the medium off there first: a second cut must not leave
- *         old bytes behind new ones.
- *   200   Go on behind the last record. Where 1 to 6 bytes are left in its page, set them to zero and go on at the next page.
- *   else  These bytes are not a log of ours that was cut: keep them for whoever looks into it, and start a new segment.
+ * Resuming after a power failure (examples/switch.c does it)
+ *   Read from place 0 until a read does not return DEPOT_WAL_DONE. It returns
+ *   DEPOT_WAL_TORN  Resume writing at the place of the error, over the truncated record. Truncate
+ *                   the medium there first: a second power failure must not leave old bytes after
+ *                   new ones.
+ *   DEPOT_WAL_END   Resume after the last record. Where 1 to 6 bytes are left in its page, set
+ *                   them to zero and resume at the next page.
+ *   otherwise       These bytes are not a log of this library that was cut off: they are corrupt,
+ *                   or of another program. Keep them for whoever looks into it, and start a new
+ *                   segment.
  */
 #ifndef DEPOT_WAL_H
 #define DEPOT_WAL_H
@@ -52,37 +68,20 @@
 extern "C" {
 #endif
 
-#define DEPOT_WAL_PAGE         32768u     /* bytes in a page */
-#define DEPOT_WAL_HEADER       7u         /* bytes in a fragment's header */
-#define DEPOT_WAL_FRAGMENT_MAX 32761u     /* data bytes that a fragment holds at most */
-#define DEPOT_WAL_RECORD_MAX   65536u     /* bytes in a record at most; a read's buffer has at least these */
-#define DEPOT_WAL_SEGMENT_MAX  134217728u /* bytes in a segment at most */
-#define DEPOT_WAL_TABLE_LEN    2048       /* numbers in the checksum's table */
+/* The version of this header and its archive, not of the log's format. */
+#define DEPOT_WAL_VERSION_MAJOR  0
+#define DEPOT_WAL_VERSION_MINOR  1
+#define DEPOT_WAL_VERSION_PATCH  0
+#define DEPOT_WAL_VERSION_STRING "0.1.0"
 
-/* The numbers that calls return. */
-enum depot_wal_number {
-    DEPOT_WAL_DONE = 0,
-    DEPOT_WAL_BAD_BUFFER = 1,    /* the segment or the record buffer has a length that is not allowed */
-    DEPOT_WAL_BAD_PLACE = 2,     /* no such place, or no such state of a body */
-    DEPOT_WAL_RESERVED = 3,      /* a reserved bit is set in a type byte */
-    DEPOT_WAL_COMPRESSED = 4,    /* a compression bit is set in a type byte */
-    DEPOT_WAL_BAD_TYPE = 5,      /* a fragment of kind 5, 6 or 7 */
-    DEPOT_WAL_NOT_ZERO = 6,      /* a byte that has to be zero is not */
-    DEPOT_WAL_OUT_OF_ORDER = 7,  /* a fragment that cannot come here */
-    DEPOT_WAL_PAST_PAGE = 8,     /* a fragment's length goes beyond its page */
-    DEPOT_WAL_TOO_LONG = 9,      /* a record or body above 65,536 bytes */
-    DEPOT_WAL_BAD_SUM = 10,      /* the checksum differs */
-    DEPOT_WAL_NO_ROOM = 11,      /* it does not fit into what is left */
-    DEPOT_WAL_TORN = 12,         /* the bytes end inside a record */
-    DEPOT_WAL_UNKNOWN_TYPE = 20, /* a body type other than 1, 2, 3, 4, 6 */
-    DEPOT_WAL_EMPTY_BODY = 21,   /* a body without any byte */
-    DEPOT_WAL_SHORT = 22,        /* the body ends inside a field */
-    DEPOT_WAL_BAD_VARINT = 23,   /* the tenth byte of a varint is above 1 */
-    DEPOT_WAL_LIST_FULL = 24,    /* more entries than a lent list has; no call of this header gives it */
-    DEPOT_WAL_BAD_LIST = 25,     /* an odd number of strings, or lengths that do not add up to the strings */
-    DEPOT_WAL_WRONG_KIND = 26,   /* an entry for a body of another type */
-    DEPOT_WAL_END = 200          /* a clean or plain end */
-};
+/* Sizes in bytes. */
+#define DEPOT_WAL_PAGE         32768u     /* a page */
+#define DEPOT_WAL_HEADER       7u         /* a fragment's header */
+#define DEPOT_WAL_FRAGMENT_MAX 32761u     /* a fragment's data at most */
+#define DEPOT_WAL_RECORD_MAX   65536u     /* a record at most, a read's buffer at least */
+#define DEPOT_WAL_SEGMENT_MAX  134217728u /* a segment at most */
+
+#define DEPOT_WAL_TABLE_LEN 2048 /* numbers in the checksum's table */
 
 /* The types of record bodies. */
 enum depot_wal_type {
@@ -93,127 +92,286 @@ enum depot_wal_type {
     DEPOT_WAL_METADATA = 6
 };
 
-/* What stands where in the answer of depot_wal_entry_at. */
-enum depot_wal_entry {
-    DEPOT_WAL_ENTRY_TYPE = 0,       /* the body's type */
-    DEPOT_WAL_ENTRY_ID = 1,         /* series id */
-    DEPOT_WAL_ENTRY_TIME = 2,       /* time, or a tombstone's min, as two's complement */
-    DEPOT_WAL_ENTRY_MAX = 3,        /* a tombstone's max, as two's complement */
-    DEPOT_WAL_ENTRY_VALUE = 4,      /* the value's 64 bits, or the metric type */
-    DEPOT_WAL_ENTRY_STRINGS = 5,    /* how many strings */
-    DEPOT_WAL_ENTRY_STRINGS_AT = 6, /* where the first one is, for depot_wal_string_at */
-    DEPOT_WAL_ENTRY_NEXT = 7        /* the place after the entry */
+/* ---- status ---- */
+
+/* What a call returns: one of the values below. Errors have the numbers of docs/FORMAT.md. */
+typedef uint32_t depot_wal_status;
+
+enum {
+    DEPOT_WAL_DONE = 0,          /* no error */
+    DEPOT_WAL_BAD_BUFFER = 1,    /* a segment or record buffer of a length that is not allowed */
+    DEPOT_WAL_BAD_PLACE = 2,     /* no such place, or no such state of a body */
+    DEPOT_WAL_RESERVED = 3,      /* a reserved bit is set in a type byte */
+    DEPOT_WAL_COMPRESSED = 4,    /* a compression bit is set in a type byte */
+    DEPOT_WAL_BAD_TYPE = 5,      /* a fragment of kind 5, 6 or 7 */
+    DEPOT_WAL_NOT_ZERO = 6,      /* a byte of padding, or of the rest of an empty page, is not 0 */
+    DEPOT_WAL_OUT_OF_ORDER = 7,  /* a fragment that cannot come here */
+    DEPOT_WAL_PAST_PAGE = 8,     /* a fragment's length goes beyond its page */
+    DEPOT_WAL_TOO_LONG = 9,      /* a record or body above 65,536 bytes */
+    DEPOT_WAL_BAD_SUM = 10,      /* the checksum differs */
+    DEPOT_WAL_NO_ROOM = 11,      /* it does not fit into what is left */
+    DEPOT_WAL_TORN = 12,         /* the bytes end inside a record */
+    DEPOT_WAL_UNKNOWN_TYPE = 20, /* a body type that is not in enum depot_wal_type */
+    DEPOT_WAL_EMPTY_BODY = 21,   /* a body without any byte */
+    DEPOT_WAL_SHORT = 22,        /* the body ends inside a field */
+    DEPOT_WAL_BAD_VARINT = 23,   /* the tenth byte of a varint is above 1 */
+    DEPOT_WAL_LIST_FULL = 24,    /* more entries than a list holds; no call here returns it */
+    DEPOT_WAL_BAD_LIST = 25,     /* an odd number of strings, or lengths that do not add up */
+    DEPOT_WAL_WRONG_KIND = 26,   /* an entry for a body of another type */
+    DEPOT_WAL_END = 200          /* the end of the log or of the body; no error */
 };
+
+/* The text of a status, for a log line or a terminal. Never NULL. */
+static inline const char *depot_wal_status_text(depot_wal_status status)
+{
+    switch (status) {
+    case DEPOT_WAL_DONE: return "done";
+    case DEPOT_WAL_BAD_BUFFER: return "segment or record buffer of a length that is not allowed";
+    case DEPOT_WAL_BAD_PLACE: return "no such place in the segment or body";
+    case DEPOT_WAL_RESERVED: return "corrupt: reserved bit set in a type byte";
+    case DEPOT_WAL_COMPRESSED: return "compressed record, which is not supported";
+    case DEPOT_WAL_BAD_TYPE: return "corrupt: unknown kind of fragment";
+    case DEPOT_WAL_NOT_ZERO: return "corrupt: padding or rest of a page is not zero";
+    case DEPOT_WAL_OUT_OF_ORDER: return "corrupt: fragment out of order";
+    case DEPOT_WAL_PAST_PAGE: return "corrupt: fragment longer than its page";
+    case DEPOT_WAL_TOO_LONG: return "record or body longer than 65536 bytes";
+    case DEPOT_WAL_BAD_SUM: return "corrupt: checksum mismatch";
+    case DEPOT_WAL_NO_ROOM: return "no room left in the segment or buffer";
+    case DEPOT_WAL_TORN: return "record truncated, as by a power failure";
+    case DEPOT_WAL_UNKNOWN_TYPE: return "unknown type of record body";
+    case DEPOT_WAL_EMPTY_BODY: return "record body without any byte";
+    case DEPOT_WAL_SHORT: return "body truncated inside a field";
+    case DEPOT_WAL_BAD_VARINT: return "corrupt: varint above 64 bits";
+    case DEPOT_WAL_LIST_FULL: return "more entries than the list holds";
+    case DEPOT_WAL_BAD_LIST: return "odd number of strings, or lengths that do not add up";
+    case DEPOT_WAL_WRONG_KIND: return "entry for a body of another type";
+    case DEPOT_WAL_END: return "nothing more to read";
+    default: return "unknown status";
+    }
+}
+
+/* ---- results: what a call leaves in *out ---- */
+
+/* Of a write. */
+struct depot_wal_written {
+    uint64_t next;     /* the place for the next write; on an error: the place given */
+    uint64_t error_at; /* the place of the error, else 0 */
+};
+
+/* Of starting a body and of adding an entry. */
+struct depot_wal_built {
+    uint64_t used;     /* the bytes of the body so far; on an error: those given, 0 at a start */
+    uint64_t error_at; /* the place of the error, else 0 */
+};
+
+/* Of a read: a record. */
+struct depot_wal_record {
+    uint64_t start;  /* the place of its first fragment; on an error: the place of the error */
+    uint64_t length; /* its bytes, which are the first of the buffer */
+    uint64_t next;   /* the place after it, for the next read */
+};
+
+/* Of the check of a body. */
+struct depot_wal_count {
+    uint64_t count; /* how many entries it has; on an error: the place of the error */
+};
+
+/* An entry of a body. A field that the type lacks is 0. */
+struct depot_wal_entry {
+    uint64_t type;       /* of enum depot_wal_type; on an error: the place of the error */
+    uint64_t id;         /* series id */
+    int64_t time;        /* time, or a tombstone's min */
+    int64_t max;         /* a tombstone's max */
+    uint64_t bits;       /* the 64 bits of the value, or the metric type */
+    uint64_t strings;    /* how many strings */
+    uint64_t strings_at; /* the place of the first, for depot_wal_string_at; without any: next */
+    uint64_t next;       /* the place after the entry */
+};
+
+/* A string of an entry. */
+struct depot_wal_string {
+    uint64_t start;  /* the place of its first byte; on an error: the place of the error */
+    uint64_t length; /* its bytes */
+};
+
+/* The library writes each of them as an array of uint64_t, so none may be padded. This is a check
+ * at compile time. */
+typedef char depot_wal_layout[
+    sizeof(struct depot_wal_written) == 2 * 8 && sizeof(struct depot_wal_built) == 2 * 8 &&
+    sizeof(struct depot_wal_record) == 3 * 8 && sizeof(struct depot_wal_count) == 1 * 8 &&
+    sizeof(struct depot_wal_entry) == 8 * 8 && sizeof(struct depot_wal_string) == 2 * 8 ? 1 : -1];
 
 /* ---- the segment ---- */
 
-/* Writes a record at a place: 0 at first, later the out[0] that the last write handed back.
- * Answers: the place for the next write, 0.
- * Refuses, in this order: 1 the segment is not one or more whole pages, or is above the limit (place 0); 2 the place is past the
- * segment or has 1 to 6 bytes left in its page (place 0); 9 the record is too long (the place given); 11 it does not fit, or the
- * place is the segment's end (the place given).
- * Changes: the segment's bytes from the old place to the new, and `out`. */
-uint32_t depot_wal_write(uint8_t *segment, size_t segment_len, size_t place,
-                         const uint8_t *record, size_t record_len, uint64_t out[2]);
+/* Writes a record at `place`: 0 at first, later the `next` of the write before.
+ * Result: the place for the next write.
+ * Errors, with error_at:
+ *   DEPOT_WAL_BAD_BUFFER  0      the segment is not one or more whole pages, or is above
+ *                                DEPOT_WAL_SEGMENT_MAX
+ *   DEPOT_WAL_BAD_PLACE   0      `place` is past the segment or has 1 to 6 bytes left in its page
+ *   DEPOT_WAL_TOO_LONG    place  the record is above DEPOT_WAL_RECORD_MAX
+ *   DEPOT_WAL_NO_ROOM     place  the record does not fit, or `place` is the segment's end
+ * Changes: the segment's bytes from `place` to the new `next`, and *out. */
+depot_wal_status depot_wal_write(uint8_t *segment, size_t segment_len, size_t place,
+                                 const uint8_t *record, size_t record_len,
+                                 struct depot_wal_written *out);
 
-/* Reads the record at a place into the buffer: place 0 at first, later the out[2] of the record before.
- * Answers: the record's start, its length, the place after it; or 200 at a clean end.
- * Refuses, in this order: 1 the segment is above the limit or the buffer below 65,536 (place 0); 2 the place is past the segment
- * (place 0); then by the bytes: 3, 4, 5, 7, 8, 9, 10 at the type byte of the fragment at hand, 6 at the byte that is not zero,
- * 12 at the start of the record that is not finished.
- * Changes: with a record of n bytes the first n of the buffer, and `out`. */
-uint32_t depot_wal_read(const uint8_t *segment, size_t segment_len, size_t place,
-                        uint8_t *buffer, size_t buffer_len, uint64_t out[3]);
+/* Reads the record at `place` into the buffer: 0 at first, later the `next` of the record before.
+ * Result: the record's start, its length and the place after it; DEPOT_WAL_END at a clean end.
+ * Errors, with the place in `start`; after the first two they are checked for each fragment:
+ *   DEPOT_WAL_BAD_BUFFER    0          the segment is above DEPOT_WAL_SEGMENT_MAX, or the buffer
+ *                                      below DEPOT_WAL_RECORD_MAX
+ *   DEPOT_WAL_BAD_PLACE     0          `place` is past the segment
+ *   DEPOT_WAL_NOT_ZERO      that byte  padding before the fragment is not zero
+ *   DEPOT_WAL_RESERVED      type byte  a reserved bit is set
+ *   DEPOT_WAL_COMPRESSED    type byte  a compression bit is set
+ *   DEPOT_WAL_BAD_TYPE      type byte  kind 5, 6 or 7
+ *   DEPOT_WAL_OUT_OF_ORDER  type byte  kind 3 or 4 with no record begun; 0, 1 or 2 inside one
+ *   DEPOT_WAL_NOT_ZERO      that byte  kind 0, and the rest of the page is not zero
+ *   DEPOT_WAL_TORN          record     the bytes end inside the header
+ *   DEPOT_WAL_PAST_PAGE     type byte  the length goes beyond the page
+ *   DEPOT_WAL_TOO_LONG      type byte  the record would be above DEPOT_WAL_RECORD_MAX
+ *   DEPOT_WAL_TORN          record     the bytes end inside the data
+ *   DEPOT_WAL_BAD_SUM       type byte  the checksum differs
+ *   DEPOT_WAL_TORN          record     the bytes end before the record's last fragment
+ * "type byte" is that of the fragment at hand, "record" the start of the truncated record.
+ * Changes: with a record of n bytes the first n of the buffer, and *out. */
+depot_wal_status depot_wal_read(const uint8_t *segment, size_t segment_len, size_t place,
+                                uint8_t *buffer, size_t buffer_len,
+                                struct depot_wal_record *out);
 
 /* ---- the checksum, and its table for those who read or write many short records ---- */
 
-/* Answers CRC-32C of the data; of no data it is 0. Refuses nothing; changes nothing. */
+/* Returns the CRC-32C of the data; of no data it is 0. No errors; changes nothing. */
 uint32_t depot_wal_crc32c(const uint8_t *data, size_t len);
 
-/* Fills the checksum's table (8,192 bytes), once, for the calls below. Refuses nothing; changes the table. */
+/* Fills the checksum's table (8,192 bytes), once, for the calls below. No errors; changes the
+ * table. */
 void depot_wal_table(uint32_t table[DEPOT_WAL_TABLE_LEN]);
 
-/* The same with a table that depot_wal_table filled, quicker on data below 512 bytes; longer data does not use it. With any other
- * table, one that was never filled for instance, the sum of data below 512 bytes is not CRC-32C and may not show damage. */
-uint32_t depot_wal_crc32c_with_table(const uint32_t table[DEPOT_WAL_TABLE_LEN], const uint8_t *data, size_t len);
+/* The calls with a table do the same as those without, and are quicker on data, or fragments,
+ * below 512 bytes; longer ones do not use the table. The promise that what is written reads back
+ * holds for the plain calls and for a table that depot_wal_table filled. The comments below say
+ * what any other table does, one that was never filled for instance. */
 
-/* As depot_wal_write, quicker for short records. With another table than depot_wal_table fills, fragments below 512 bytes get sums
- * that a reader without that table refuses as 10. */
-uint32_t depot_wal_write_with_table(const uint32_t table[DEPOT_WAL_TABLE_LEN],
-                                    uint8_t *segment, size_t segment_len, size_t place,
-                                    const uint8_t *record, size_t record_len, uint64_t out[2]);
+/* As depot_wal_crc32c. With any other table the sum of data below 512 bytes is not CRC-32C and may
+ * not show corruption. */
+uint32_t depot_wal_crc32c_with_table(const uint32_t table[DEPOT_WAL_TABLE_LEN],
+                                     const uint8_t *data, size_t len);
 
-/* As depot_wal_read, quicker for short records. With another table, fragments below 512 bytes are held to other sums: good ones may
- * be refused as 10, and damaged ones that were written with that table may pass. */
-uint32_t depot_wal_read_with_table(const uint32_t table[DEPOT_WAL_TABLE_LEN],
-                                   const uint8_t *segment, size_t segment_len, size_t place,
-                                   uint8_t *buffer, size_t buffer_len, uint64_t out[3]);
+/* As depot_wal_write. With any other table, fragments below 512 bytes get sums for which a reader
+ * without that table returns DEPOT_WAL_BAD_SUM. */
+depot_wal_status depot_wal_write_with_table(const uint32_t table[DEPOT_WAL_TABLE_LEN],
+                                            uint8_t *segment, size_t segment_len, size_t place,
+                                            const uint8_t *record, size_t record_len,
+                                            struct depot_wal_written *out);
 
-/* ---- building a body: start it, then add entries; the bytes used are then a record to be written ---- */
+/* As depot_wal_read. With any other table, fragments below 512 bytes are held to other sums: good
+ * ones may get DEPOT_WAL_BAD_SUM, and corrupt ones that were written with that table may pass. */
+depot_wal_status depot_wal_read_with_table(const uint32_t table[DEPOT_WAL_TABLE_LEN],
+                                           const uint8_t *segment, size_t segment_len, size_t place,
+                                           uint8_t *buffer, size_t buffer_len,
+                                           struct depot_wal_record *out);
 
-/* Starts a body of a type (enum depot_wal_type).
- * Answers: the bytes used, which are 1, and 0.
- * Refuses, in this order: 20 no such type; 11 the buffer is empty (place 0 both).
- * Changes: the buffer's first byte, and `out`. */
-uint32_t depot_wal_body_start(uint8_t *buffer, size_t len, uint8_t type, uint64_t out[2]);
+/* ---- encoding a body: start it, then add entries; its bytes are then a record to write ---- */
 
-/* The five additions. `type` and `used` say how far the body is: the type it was started with and the out[0] last handed back.
- * Answer: the bytes used with the new entry, and 0.
- * Refuse, in this order: 2 no such state: `used` is 0 or more than `len`, or 2 to 16 in types 2 and 4, or the first byte is not
- * `type` (place 0); 26 `type` is not the type of this entry (place 0); 25 see below (place 0); 9 the body would be above 65,536
- * bytes; 11 it would be longer than the buffer (9 and 11: place `used`).
- * Change: the buffer's bytes from the old bytes used to the new, and `out`.
+/* Starts a body of a type.
+ * Result: the bytes used, which are 1.
+ * Errors, with error_at:
+ *   DEPOT_WAL_UNKNOWN_TYPE  0  `type` is not in enum depot_wal_type
+ *   DEPOT_WAL_NO_ROOM       0  the buffer is empty
+ * Changes: the buffer's first byte, and *out. */
+depot_wal_status depot_wal_body_start(uint8_t *buffer, size_t len, uint8_t type,
+                                      struct depot_wal_built *out);
+
+/* The five calls that add an entry. `type` and `used` are the state of the body: the type that it
+ * was started with, and the `used` of the call before.
+ * Result: the bytes used with the new entry.
+ * Errors, with error_at:
+ *   DEPOT_WAL_BAD_PLACE   0     no such state: `used` is 0 or more than `len`, or 2 to 16 in types
+ *                               DEPOT_WAL_SAMPLES and DEPOT_WAL_EXEMPLARS, or the buffer's first
+ *                               byte is not `type`
+ *   DEPOT_WAL_WRONG_KIND  0     `type` is not the type of this entry
+ *   DEPOT_WAL_BAD_LIST    0     `count` is odd, or the lengths do not add up to strings_len
+ *   DEPOT_WAL_TOO_LONG    used  the body would be above DEPOT_WAL_RECORD_MAX
+ *   DEPOT_WAL_NO_ROOM     used  the body would be longer than the buffer
+ * Changes: the buffer's bytes from the old `used` to the new, and *out.
  *
- * Strings come in pairs (name and text): `strings` holds all of them one after the other, `lengths` the `count` lengths. An odd
- * count, or lengths that do not add up to strings_len, is 25. */
+ * Strings come in pairs (name and text): `strings` holds all of them one after the other, `lengths`
+ * their `count` lengths. */
 
 /* Adds a series: its id and its labels. */
-uint32_t depot_wal_add_series(uint8_t *buffer, size_t len, uint8_t type, size_t used, uint64_t id,
-                              const uint8_t *strings, size_t strings_len,
-                              const uint64_t *lengths, size_t count, uint64_t out[2]);
+depot_wal_status depot_wal_add_series(uint8_t *buffer, size_t len, uint8_t type, size_t used,
+                                      uint64_t id, const uint8_t *strings, size_t strings_len,
+                                      const uint64_t *lengths, size_t count,
+                                      struct depot_wal_built *out);
 
-/* Adds a sample: series id, time (milliseconds, for Prometheus), the 64 bits of the value (every NaN survives). */
-uint32_t depot_wal_add_sample(uint8_t *buffer, size_t len, uint8_t type, size_t used,
-                              uint64_t id, int64_t time, uint64_t bits, uint64_t out[2]);
+/* Adds a sample: series id, time (milliseconds, for Prometheus), and the 64 bits of the value
+ * (every NaN survives). */
+depot_wal_status depot_wal_add_sample(uint8_t *buffer, size_t len, uint8_t type, size_t used,
+                                      uint64_t id, int64_t time, uint64_t bits,
+                                      struct depot_wal_built *out);
 
 /* Adds a tombstone: the samples of a series from min to max are deleted. */
-uint32_t depot_wal_add_tombstone(uint8_t *buffer, size_t len, uint8_t type, size_t used,
-                                 uint64_t id, int64_t min, int64_t max, uint64_t out[2]);
+depot_wal_status depot_wal_add_tombstone(uint8_t *buffer, size_t len, uint8_t type, size_t used,
+                                         uint64_t id, int64_t min, int64_t max,
+                                         struct depot_wal_built *out);
 
 /* Adds an exemplar: a sample with labels. */
-uint32_t depot_wal_add_exemplar(uint8_t *buffer, size_t len, uint8_t type, size_t used,
-                                uint64_t id, int64_t time, uint64_t bits,
-                                const uint8_t *strings, size_t strings_len,
-                                const uint64_t *lengths, size_t count, uint64_t out[2]);
+depot_wal_status depot_wal_add_exemplar(uint8_t *buffer, size_t len, uint8_t type, size_t used,
+                                        uint64_t id, int64_t time, uint64_t bits,
+                                        const uint8_t *strings, size_t strings_len,
+                                        const uint64_t *lengths, size_t count,
+                                        struct depot_wal_built *out);
 
 /* Adds metadata of a series: its metric type (any byte) and its fields, each a name and a text. */
-uint32_t depot_wal_add_metadata(uint8_t *buffer, size_t len, uint8_t type, size_t used,
-                                uint64_t id, uint8_t metric_type,
-                                const uint8_t *strings, size_t strings_len,
-                                const uint64_t *lengths, size_t count, uint64_t out[2]);
+depot_wal_status depot_wal_add_metadata(uint8_t *buffer, size_t len, uint8_t type, size_t used,
+                                        uint64_t id, uint8_t metric_type,
+                                        const uint8_t *strings, size_t strings_len,
+                                        const uint64_t *lengths, size_t count,
+                                        struct depot_wal_built *out);
 
-/* ---- reading a body ---- */
+/* ---- decoding a body ---- */
 
 /* Checks a body of any length.
- * Answers: the number of its entries.
- * Refuses, in this order: 21 no byte; 20 unknown type (place 0 both); then the first fault from the left, 22 or 23, at the first
- * byte of the field (a string and its length are one field).
- * Changes: `out` alone. */
-uint32_t depot_wal_body_check(const uint8_t *body, size_t len, uint64_t out[1]);
+ * Result: the number of its entries.
+ * Errors, with the place in `count`:
+ *   DEPOT_WAL_EMPTY_BODY    0      `len` is 0
+ *   DEPOT_WAL_UNKNOWN_TYPE  0      the first byte is not in enum depot_wal_type
+ *   DEPOT_WAL_SHORT         field  the body ends inside a field
+ *   DEPOT_WAL_BAD_VARINT    field  the tenth byte of a varint is above 1
+ * Of the last two the first from the left counts; "field" is the first byte of that field (a string
+ * and its length are one field).
+ * Changes: *out. */
+depot_wal_status depot_wal_body_check(const uint8_t *body, size_t len,
+                                      struct depot_wal_count *out);
 
-/* Reads the entry at a place: 1 is the first, later the place after the entry before.
- * Answers: the eight values of enum depot_wal_entry, ids and times of rows after adding the first ones. A field that the type
- * lacks is 0, and the strings of an entry without any begin at the place after it. Or 200 at the body's end.
- * Refuses, in this order: 21; 20; 2 the place is 0, past the body, or 2 to 16 in types 2 and 4 (place 0 each); then the first
- * fault of this entry, 22 or 23, at the first byte of the field.
- * Changes: `out` alone. */
-uint32_t depot_wal_entry_at(const uint8_t *body, size_t len, size_t place, uint64_t out[8]);
+/* Decodes the entry at `place`: 1 for the first, later the `next` of the entry before.
+ * Result: the entry, with ids and times of rows after adding the first ones; DEPOT_WAL_END at the
+ * body's end.
+ * Errors, with the place in `type`:
+ *   DEPOT_WAL_EMPTY_BODY    0      `len` is 0
+ *   DEPOT_WAL_UNKNOWN_TYPE  0      the first byte is not in enum depot_wal_type
+ *   DEPOT_WAL_BAD_PLACE     0      `place` is 0, past the body, or 2 to 16 in types
+ *                                  DEPOT_WAL_SAMPLES and DEPOT_WAL_EXEMPLARS
+ *   DEPOT_WAL_SHORT         field  as above, but of this entry alone
+ *   DEPOT_WAL_BAD_VARINT    field  as above, but of this entry alone
+ * Changes: *out. */
+depot_wal_status depot_wal_entry_at(const uint8_t *body, size_t len, size_t place,
+                                    struct depot_wal_entry *out);
 
-/* Reads the string at a place: an entry's first is at DEPOT_WAL_ENTRY_STRINGS_AT, the next one at start + length.
- * Answers: the start of its bytes and their length.
- * Refuses, in this order: 21; 20; 2 the place is 0 or past the body (place 0 each); 22 or 23 at the place given.
- * Changes: `out` alone. */
-uint32_t depot_wal_string_at(const uint8_t *body, size_t len, size_t place, uint64_t out[2]);
+/* Decodes the string at `place`: an entry's first is at its `strings_at`, the next one at the start
+ * plus the length of the one before.
+ * Result: where its bytes start, and how many they are.
+ * Errors, with the place in `start`:
+ *   DEPOT_WAL_EMPTY_BODY    0      `len` is 0
+ *   DEPOT_WAL_UNKNOWN_TYPE  0      the first byte is not in enum depot_wal_type
+ *   DEPOT_WAL_BAD_PLACE     0      `place` is 0 or past the body
+ *   DEPOT_WAL_SHORT         place  the body ends inside the string or its length
+ *   DEPOT_WAL_BAD_VARINT    place  the tenth byte of the length is above 1
+ * Changes: *out. */
+depot_wal_status depot_wal_string_at(const uint8_t *body, size_t len, size_t place,
+                                     struct depot_wal_string *out);
 
 #ifdef __cplusplus
 }
