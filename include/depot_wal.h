@@ -6,6 +6,36 @@
  * examples/switch.c is a whole program. The archive is for Linux on x86-64; beside the caller's
  * memory it needs `memset`.
  *
+ * An example (`make test` compiles and runs it)
+ *
+ *     #include "depot_wal.h"
+ *     #include <stdio.h>
+ *
+ *     int main(void)
+ *     {
+ *         static uint8_t segment[DEPOT_WAL_PAGE], buffer[DEPOT_WAL_RECORD_MAX];
+ *         static const uint8_t hello[] = "hello";
+ *         struct depot_wal_written written;
+ *         struct depot_wal_record record;
+ *         depot_wal_status status;
+ *         size_t place = 0;
+ *
+ *         status = depot_wal_write(segment, sizeof segment, place, hello, 5, &written);
+ *         if (status != DEPOT_WAL_DONE)
+ *             return 1;
+ *         // Read what is on the medium: written.next bytes, or fewer after a power failure.
+ *         while ((status = depot_wal_read(segment, written.next, place, buffer, sizeof buffer,
+ *                                         &record)) == DEPOT_WAL_DONE) {
+ *             fwrite(buffer, 1, record.length, stdout);
+ *             place = record.next;
+ *         }
+ *         if (status == DEPOT_WAL_TORN)
+ *             place = record.start; // resume writing here, over the truncated record
+ *         else if (status != DEPOT_WAL_END)
+ *             fprintf(stderr, "%s\n", depot_wal_status_text(status)); // start a new segment
+ *         return 0;
+ *     }
+ *
  * What a call returns
  *   DEPOT_WAL_DONE (0)  no error: the result is in *out
  *   DEPOT_WAL_END       there is nothing more to read; this is no error either
