@@ -284,20 +284,21 @@ void depot_wal_table(uint32_t table[DEPOT_WAL_TABLE_LEN]);
  * holds for the plain calls and for a table that depot_wal_table filled. The comments below say
  * what any other table does, one that was never filled for instance. */
 
-/* As depot_wal_crc32c. With any other table the sum of data below 512 bytes is not CRC-32C and may
- * not show corruption. */
+/* As depot_wal_crc32c. With any other table the sum of data below 512 bytes may differ from CRC-32C
+ * and may not show corruption. */
 uint32_t depot_wal_crc32c_with_table(const uint32_t table[DEPOT_WAL_TABLE_LEN],
                                      const uint8_t *data, size_t len);
 
-/* As depot_wal_write. With any other table, fragments below 512 bytes get sums for which a reader
- * without that table returns DEPOT_WAL_BAD_SUM. */
+/* As depot_wal_write. With any other table, fragments below 512 bytes may get sums for which a
+ * reader without that table returns DEPOT_WAL_BAD_SUM. */
 depot_wal_status depot_wal_write_with_table(const uint32_t table[DEPOT_WAL_TABLE_LEN],
                                             uint8_t *segment, size_t segment_len, size_t place,
                                             const uint8_t *record, size_t record_len,
                                             struct depot_wal_written *out);
 
-/* As depot_wal_read. With any other table, fragments below 512 bytes are held to other sums: good
- * ones may get DEPOT_WAL_BAD_SUM, and corrupt ones that were written with that table may pass. */
+/* As depot_wal_read. With any other table, fragments below 512 bytes may be held to other sums:
+ * good ones may get DEPOT_WAL_BAD_SUM, and corrupt ones that were written with that table may
+ * pass. */
 depot_wal_status depot_wal_read_with_table(const uint32_t table[DEPOT_WAL_TABLE_LEN],
                                            const uint8_t *segment, size_t segment_len, size_t place,
                                            uint8_t *buffer, size_t buffer_len,
