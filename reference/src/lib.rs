@@ -6,6 +6,7 @@
 
 pub mod body;
 pub mod crc32c;
+pub mod damage;
 pub mod listing;
 pub mod refusal;
 pub mod segment;

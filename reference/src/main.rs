@@ -3,12 +3,15 @@
 //! `reference reader`: the lines that the product's program `reader_tour` has to print.
 //! `reference samples`: the lines that the product's program `samples_tour` has to print.
 //! `reference list`: document 01's listing of a segment on standard input.
+//! `reference damage FILE`: the cases of a table of named damage, with this program's answers.
 
 #![forbid(unsafe_code)]
 
-use reference::{listing, selftest, tour, tour_samples, vectors};
+use reference::{damage, listing, selftest, tour, tour_samples, vectors};
 use std::io::{self, Read, Write};
 use std::process::ExitCode;
+
+const USAGE: &str = "usage: reference selftest | vectors | reader | samples | list | damage FILE";
 
 fn main() -> ExitCode {
     let words: Vec<String> = std::env::args().skip(1).collect();
@@ -19,7 +22,8 @@ fn main() -> ExitCode {
         ["reader"] => Ok(tour::text()),
         ["samples"] => Ok(tour_samples::text()),
         ["list"] => Ok(listing::text(&input())),
-        _ => Err("usage: reference selftest | vectors | reader | samples | list".to_string()),
+        ["damage", file] => file_text(file).and_then(|table| damage::text(&table)),
+        _ => Err(USAGE.to_string()),
     };
     match done {
         Ok(text) => print(&text),
@@ -36,6 +40,10 @@ fn input() -> Vec<u8> {
     let enough = listing::INPUT_MAX as u64 + 1;
     let _ = io::stdin().take(enough).read_to_end(&mut bytes);
     bytes
+}
+
+fn file_text(file: &str) -> Result<String, String> {
+    std::fs::read_to_string(file).map_err(|error| format!("{file}: {error}"))
 }
 
 fn print(text: &str) -> ExitCode {
