@@ -1,6 +1,8 @@
 /* Every call of include/depot_wal.h, from C. The expected values are worked out from document 01
- * (the exact rules), never taken from a run. Prints one line; if a check fails, it prints its line
- * number and exits with 1. */
+ * (the exact rules), never taken from a run. Then the table of named damage (damage.c), whose path
+ * is the argument, by default tests/damage.txt. Prints one line; if a check fails, it prints its
+ * line number and exits with 1. */
+#include "check.h"
 #include "depot_wal.h"
 
 #include <stdio.h>
@@ -15,7 +17,7 @@
 
 /* ---- how checks are made ---- */
 
-static long checks;
+long checks;
 
 static void check(int line, int holds, const char *what)
 {
@@ -27,7 +29,7 @@ static void check(int line, int holds, const char *what)
 }
 #define CHECK(holds) check(__LINE__, (holds), #holds)
 
-static int all(const uint8_t *bytes, size_t n, uint8_t value)
+int all(const uint8_t *bytes, size_t n, uint8_t value)
 {
     for (size_t i = 0; i < n; i++)
         if (bytes[i] != value)
@@ -858,7 +860,7 @@ static void body_places(void)
     ENTRY_AT(body, n, 0, DEPOT_WAL_UNKNOWN_TYPE, .type = 0);
 }
 
-int main(void)
+int main(int argc, char **argv)
 {
     layouts();
     texts();
@@ -883,6 +885,7 @@ int main(void)
     addition_limits();
     corrupt_bodies();
     body_places();
-    printf("calls: %ld checks passed\n", checks);
+    long cases = damage(argc > 1 ? argv[1] : "tests/damage.txt");
+    printf("calls: %ld checks passed, %ld cases of named damage among them\n", checks, cases);
     return 0;
 }
