@@ -6,8 +6,8 @@ use crate::listing;
 /// The longest segment of a table.
 const SEGMENT_MAX: usize = 131_072;
 
-/// The table's lines without its comments; a table without a case is refused, and so is a line
-/// that is none.
+/// The cases, a line each. It is an error if there are none, or if a line is neither a case nor a
+/// comment.
 pub fn text(table: &str) -> Result<String, String> {
     let mut cases = String::new();
     for (above, line) in table.lines().enumerate() {

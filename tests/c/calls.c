@@ -1,7 +1,7 @@
 /* Every call of include/depot_wal.h, from C. The expected values are worked out from document 01
  * (the exact rules), never taken from a run. Then the table of named damage (damage.c), whose path
  * is the argument, by default tests/damage.txt. Prints one line; if a check fails, it prints its
- * line number and exits with 1. */
+ * line number, or the name of the case, and exits with 1. */
 #include "check.h"
 #include "depot_wal.h"
 
