@@ -27,7 +27,7 @@ valgrind: $(ARCHIVE)
 	@mkdir -p build
 	@gcc $(CFLAGS) -g tests/c/calls.c tests/c/damage.c $(ARCHIVE) -o build/calls
 	@valgrind --quiet --error-exitcode=1 build/calls tests/damage.txt
-	@for f in fixtures/*_00000000 $(ARCHIVE) Makefile; do \
+	@for f in tests/fixtures/*_00000000 $(ARCHIVE) Makefile; do \
 	    valgrind --quiet --error-exitcode=1 target/bin/list <$$f >/dev/null || exit 1; done
 	@echo 'valgrind: no error'
 
