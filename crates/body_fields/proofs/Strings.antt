@@ -16,7 +16,8 @@ use Rattle.body_fields.specs.declared.TextListRead.the-variants as list
 use Rattle.body_fields.specs.declared.Place.{Place}
 use Rattle.body_fields.specs.declared.Place.the-variants.{At, Fault}
 use Rattle.body_fields.specs.Readings.{textRead, textListRead}
-use Rattle.body_fields.specs.Ends.{endOf, tally}
+use Rattle.body_fields.specs.Ends.{endOf}
+use Rattle.body_fields.specs.Tally.{tally}
 
 pub uvarint-inside : (s : List ℕ) (p n q : ℕ) → uvarintAt s p ≡ got n q → q ≤ length s
 uvarint-inside s p n q e = of-got _ (uvarintAt s p) n q (uvarint-ahead s p) e .1

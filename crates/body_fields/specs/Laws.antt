@@ -1,4 +1,5 @@
--- What an answer in the code's form says of the definition's reading: the value and the place after it, or the fault; and laws of single numbers.
+-- What an answer in the code's form says of the definition's reading: the value and the place after
+-- it, or the fault; and laws of single numbers.
 -- Assumes nothing.
 use mathlib.Core.Path.{_≡_, refl}
 use mathlib.Core.List.{List}
@@ -35,7 +36,8 @@ pub number-got : (f : Field ℕ) (r : NumberRead) {n q : ℕ} → r ≡ numberRe
 number-got (got m p) r e g = cc
 number-got (fault w) r e g = never cc
 
-pub number-fault : (f : Field ℕ) (r : NumberRead) {why : Refusal} → r ≡ numberRead f → r ≡ number.Fault why → f ≡ fault why
+pub number-fault : (f : Field ℕ) (r : NumberRead) {why : Refusal}
+    → r ≡ numberRead f → r ≡ number.Fault why → f ≡ fault why
 number-fault (got m p) r e g = never cc
 number-fault (fault w) r e g = cc
 
@@ -43,7 +45,8 @@ pub signed-got : (f : Field ℤ) (r : SignedRead) {x : ℤ} {q : ℕ} → r ≡ 
 signed-got (got m p) r e g = cc
 signed-got (fault w) r e g = never cc
 
-pub signed-fault : (f : Field ℤ) (r : SignedRead) {why : Refusal} → r ≡ signedRead f → r ≡ signed.Fault why → f ≡ fault why
+pub signed-fault : (f : Field ℤ) (r : SignedRead) {why : Refusal}
+    → r ≡ signedRead f → r ≡ signed.Fault why → f ≡ fault why
 signed-fault (got m p) r e g = never cc
 signed-fault (fault w) r e g = cc
 
@@ -61,7 +64,8 @@ pub list-got : (f : Field Texts) (r : TextListRead) {n first q : ℕ} → r ≡ 
 list-got (got l p) r e g = (l, cc, cc, cc)
 list-got (fault w) r e g = never cc
 
-pub list-fault : (f : Field Texts) (r : TextListRead) {why : Refusal} → r ≡ textListRead f → r ≡ list.Fault why → f ≡ fault why
+pub list-fault : (f : Field Texts) (r : TextListRead) {why : Refusal}
+    → r ≡ textListRead f → r ≡ list.Fault why → f ≡ fault why
 list-fault (got m p) r e g = never cc
 list-fault (fault w) r e g = cc
 

@@ -1,3 +1,5 @@
 pub mod Readings
 pub mod Ends
+pub mod Tally
 pub mod Laws
+pub mod EndLaws

@@ -1,4 +1,7 @@
-// The fields of a body, each read at its place. A fault is at the field's first byte.
+// The fields of a body, each read at its place. A fault is at the field's first byte. ends.rt walks
+// over them without their values.
+pub mod ends;
+
 use uvarint::UvarintRead;
 use varint::VarintRead;
 use wal_types::Offset;
@@ -8,7 +11,8 @@ ghost use Prim.Native.Nat.{_*_, _≤_};
 ghost use lib.ListN.{length};
 ghost use Rattle.body_format.specs.Fields.{byteAt, fixedAt, uvarintAt, varintAt, textAt, textsAt, textListAt};
 ghost use Rattle.body_fields.specs.Readings.{numberRead, signedRead, textRead, textListRead};
-ghost use Rattle.body_fields.specs.Ends.{endOf, tally};
+ghost use Rattle.body_fields.specs.Ends.{endOf};
+ghost use Rattle.body_fields.specs.Tally.{tally};
 
 // ---- numbers
 
@@ -121,7 +125,8 @@ pub enum TextListRead {
     Fault(Refusal),
 }
 
-// A string with its length is one field. The length is compared with what remains, never added before that.
+// A string with its length is one field. The length is compared with what remains, never added
+// before that.
 pub fn text_at(body: &[u8], at: usize) -> TextRead
     ensures { λ r. ⌜ r ≡ textRead (textAt (now (body .entry)) at) ⌝ }
 {
@@ -164,7 +169,8 @@ fn pair_at(body: &[u8], at: usize) -> Place
     }
 }
 
-// So many pairs of strings. The strings are counted as they are found: twice the number of pairs need not fit 64 bits.
+// So many pairs of strings. The strings are counted as they are found: twice the number of pairs
+// need not fit 64 bits.
 fn pairs_at(body: &[u8], first: usize, pairs: u64) -> TextListRead
     requires { ⌜ first ≤ length (now body) ⌝ }
     ensures { λ r. ⌜ r ≡ tally first 0 (textsAt (2 * pairs) (now (body .entry)) first) ⌝ }

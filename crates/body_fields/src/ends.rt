@@ -1,0 +1,86 @@
+// Where the fields end: each is walked over without its value. A fault met on the way to a field
+// is handed on, so that a caller walks over the fields of an entry one behind the other.
+use crate::NumberRead;
+use crate::Place;
+use crate::SignedRead;
+use crate::TextListRead;
+use crate::byte_at;
+use crate::fixed_at;
+use crate::text_list_at;
+use crate::uvarint_at;
+use crate::varint_at;
+ghost use mathlib.Core.Path.{_≡_};
+ghost use Prim.Native.Nat.{ℕ};
+ghost use Rattle.body_format.specs.Fields.{Field, byteAt, fixedAt, uvarintAt, varintAt, textListAt};
+ghost use Rattle.body_fields.specs.Readings.{numberRead};
+ghost use Rattle.body_fields.specs.Ends.{endOf, onward};
+
+// The end of a number, whatever field it was read from.
+fn number_end(read: NumberRead) -> Place
+    ensures { λ r. ⌜ ((f : Field ℕ) → read ≡ numberRead f → r ≡ endOf f) ⌝ }
+{
+    match read {
+        NumberRead::Got { value: _, next } => Place::At(next),
+        NumberRead::Fault(why) => Place::Fault(why),
+    }
+}
+
+// A single byte.
+pub fn byte_end(body: &[u8], from: Place) -> Place
+    ensures { λ r. ⌜ r ≡ onward from (λ (at : ℕ). endOf (byteAt (now (body .entry)) at)) ⌝ }
+{
+    match from {
+        Place::At(at) => number_end(byte_at(body, at)),
+        Place::Fault(why) => Place::Fault(why),
+    }
+}
+
+// 8 bytes, big-endian.
+pub fn fixed_end(body: &[u8], from: Place) -> Place
+    ensures { λ r. ⌜ r ≡ onward from (λ (at : ℕ). endOf (fixedAt (now (body .entry)) at)) ⌝ }
+{
+    match from {
+        Place::At(at) => number_end(fixed_at(body, at)),
+        Place::Fault(why) => Place::Fault(why),
+    }
+}
+
+// A uvarint.
+pub fn uvarint_end(body: &[u8], from: Place) -> Place
+    ensures { λ r. ⌜ r ≡ onward from (λ (at : ℕ). endOf (uvarintAt (now (body .entry)) at)) ⌝ }
+{
+    match from {
+        Place::At(at) => number_end(uvarint_at(body, at)),
+        Place::Fault(why) => Place::Fault(why),
+    }
+}
+
+// A signed varint.
+pub fn varint_end(body: &[u8], from: Place) -> Place
+    ensures { λ r. ⌜ r ≡ onward from (λ (at : ℕ). endOf (varintAt (now (body .entry)) at)) ⌝ }
+{
+    match from {
+        Place::At(at) => match varint_at(body, at) {
+            SignedRead::Got { value: _, next } => Place::At(next),
+            SignedRead::Fault(why) => Place::Fault(why),
+        },
+        Place::Fault(why) => Place::Fault(why),
+    }
+}
+
+// A count n, and then 2n strings.
+pub fn list_end(body: &[u8], from: Place) -> Place
+    ensures { λ r. ⌜ r ≡ onward from (λ (at : ℕ). endOf (textListAt (now (body .entry)) at)) ⌝ }
+{
+    match from {
+        Place::At(at) => match text_list_at(body, at) {
+            TextListRead::Got {
+                count: _,
+                first: _,
+                next,
+            } => Place::At(next),
+            TextListRead::Fault(why) => Place::Fault(why),
+        },
+        Place::Fault(why) => Place::Fault(why),
+    }
+}
