@@ -8,5 +8,6 @@ pub mod Strings
 pub mod Entries
 pub mod Additions
 pub mod Bodies
+pub mod Places
 pub mod Walks
 pub mod Built

@@ -1,25 +1,26 @@
 -- Laws of walks: reading an entry at each place in turn walks the list of entries that the definition reads, and each entry's strings.
 -- Assumes nothing.
 use mathlib.Core.Path.{_≡_, refl, ap, _∙_, subst}
-use mathlib.Core.Bool.{Bool, true, false, cond, _&&_}
+use mathlib.Core.Bool.{Bool, true, false, cond}
 use mathlib.Core.List.{List, _∷_}
 use Prim.Native.Nat.{ℕ, zero, suc, _+_, _*_, _≤_, _<_}
 use native.Mathlib.Omega.{arith}
-use borrow.Author.Tests.{le-ltb, ltb-false, le-leb, lt-leb, eq-eqb, ne-eqb, eqb-true, eqb-false}
+use borrow.Author.Tests.{le-ltb, ltb-false, eq-eqb, ne-eqb, eqb-true, eqb-false}
 use lib.ListN.{length, take, drop}
 use lib.Seq.{length-take-le}
-use lib.Dec.{ltb, leb, eqb}
-use Rattle.wal_types.specs.declared.Refusal.the-variants.{Short, BadPlace}
+use lib.Dec.{ltb, eqb}
+use Rattle.wal_types.specs.declared.Refusal.the-variants.{Short}
 use Rattle.wal_types.specs.Terms.{offset}
-use Rattle.body_format.specs.declared.EntryAnswer.the-variants.{End, Refused as EntryRefused}
+use Rattle.body_format.specs.declared.EntryAnswer.the-variants.{End}
 use Rattle.body_format.specs.declared.StringAnswer.the-variants.{Found as StringFound}
 use Rattle.body_format.specs.Fields.{Field, got, fault, andThen, byteAt, fixedAt, uvarintAt, varintAt, Text, textAt, textsAt, textListAt}
 use Rattle.body_format.specs.Entries.{Kind, series, samples, tombstones, exemplars, metadata, known, kindOf, hasRows, Entry, rowAt, seriesAt, sampleAt, tombstoneAt, exemplarAt, metadataAt, entryAt, entriesFrom, firstAt, entries}
-use Rattle.body_format.specs.Reading.{answerEntry, entryOrEnd, firstEntry, badPlace, readEntry, answerString, readString}
+use Rattle.body_format.specs.Reading.{answerEntry, entryOrEnd, firstEntry, readEntry, answerString, readString}
 use Rattle.body_format.specs.Calls.{Strings, stringsOf, Walks}
 use Rattle.body_format.specs.Calls.Walks.{next, done}
 use Rattle.body_format.specs.Laws.Bounds.{Every, every-then, every-both, of-got, byte-ahead, fixed-ahead, uvarint-ahead, varint-ahead, text-ahead, row-ahead, entry-ahead}
 use Rattle.body_format.specs.Laws.Lists.{entries-end, entries-suc, first-bounds}
+use Rattle.body_format.specs.Laws.Places.{known-first, known-later}
 
 -- where a reading succeeds, it is that
 every-self : {A : Type 0} (x : Field A) → Every (λ a q. x ≡ got a q) x
@@ -99,23 +100,13 @@ module _ (b : ℕ) (s : List ℕ) (k : Kind) (type : kindOf b ≡ known k) where
 
   -- at place 1: where the entries begin
   pub entry-first : readEntry (b ∷ s) 1 ≡ firstEntry k (b ∷ s) (firstAt (hasRows k) (b ∷ s))
-  unfolding readEntry badPlace
-  entry-first = rw (type, le-ltb (length (b ∷ s)) 1 (omega arith)) (go (hasRows k))
-    where
-      go : (rows : Bool) → cond (rows && false) (EntryRefused BadPlace) (firstEntry k (b ∷ s) (firstAt (hasRows k) (b ∷ s))) ≡ firstEntry k (b ∷ s) (firstAt (hasRows k) (b ∷ s))
-      go true = refl
-      go false = refl
+  unfolding readEntry
+  entry-first = rw type (known-first k (b ∷ s) 1 refl (omega arith))
 
   -- at a later one: there
   pub entry-later : (p : ℕ) → 2 ≤ p → p ≤ length (b ∷ s) → (hasRows k ≡ true → 17 ≤ p) → readEntry (b ∷ s) p ≡ entryOrEnd k (b ∷ s) p
-  unfolding readEntry badPlace
-  entry-later p h l r =
-      rw (type, ne-eqb p 0 (omega arith), le-ltb (length (b ∷ s)) p l, ne-eqb p 1 (omega arith)) (go (hasRows k) r)
-    where
-      go : (rows : Bool) → (rows ≡ true → 17 ≤ p)
-          → cond (rows && (leb 2 p && leb p 16)) (EntryRefused BadPlace) (entryOrEnd k (b ∷ s) p) ≡ entryOrEnd k (b ∷ s) p
-      go true q = rw (le-leb 2 p h, lt-leb p 16 (q refl))
-      go false q = refl
+  unfolding readEntry
+  entry-later p h l r = rw type (known-later k (b ∷ s) p h l r)
 
   -- the plain end
   pub at-end : (p : ℕ) → p ≡ length (b ∷ s) → entryOrEnd k (b ∷ s) p ≡ End
