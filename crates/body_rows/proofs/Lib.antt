@@ -1,0 +1,4 @@
+pub mod Reading
+pub mod ShortRow
+pub mod Ending
+pub mod Placing

@@ -1,0 +1,47 @@
+-- Forms that the private functions hand on: a row by its deltas, its labels, and where it is.
+-- Assumes nothing.
+use mathlib.Core.Path.{_≡_}
+use mathlib.Core.Bool.{Bool, true, false, cond, _&&_}
+use mathlib.Core.List.{List}
+use Prim.Native.Nat.{ℕ, _+_, _-_}
+use lib.Dec.{eqb, leb, ltb}
+use lib.ListN.{length, getD, drop}
+use Rattle.wal_types.specs.declared.SeriesId.{SeriesId}
+use Rattle.wal_types.specs.declared.Timestamp.{Timestamp}
+use Rattle.wal_types.specs.Terms.{seriesId, timestamp}
+use Rattle.wal_types.specs.Deltas.{plus, toBits, fromBits}
+use Rattle.big_endian.specs.Fixed.{readBe8}
+use Rattle.body_format.specs.Fields.{Field, got, fault, textListAt}
+use Rattle.body_format.specs.Entries.{Row}
+use Rattle.body_fields.specs.declared.TextListRead.{TextListRead}
+use Rattle.body_fields.specs.declared.TextListRead.the-variants as list
+use Rattle.body_fields.specs.Readings.{textListRead}
+use Rattle.body_rows.specs.declared.RowRead.{RowRead}
+use Rattle.body_rows.specs.declared.RowRead.the-variants as row
+
+-- the first id and the first timestamp are those in bytes 1 to 16
+pub record BaseIn (s : List ℕ) (id : SeriesId) (time : Timestamp) : Type 0 where
+  pub same-id : id .0 ≡ readBe8 (drop 1 s)
+  pub same-time : toBits (time .0) ≡ readBe8 (drop 9 s)
+
+abbrev pub rowRead : Field Row → RowRead
+rowRead (got r next) = row.Got (seriesId (r .id)) (timestamp (r .time)) (r .bits) next
+rowRead (fault why) = row.Fault why
+
+-- a row whose deltas are d and e
+abbrev pub rowGot : SeriesId → Timestamp → ℕ → ℕ → ℕ → ℕ → RowRead
+rowGot id time d e bits next =
+    row.Got (seriesId (plus (id .0) d)) (timestamp (fromBits (plus (toBits (time .0)) e))) bits next
+
+-- ten bytes, of which the first two are a delta each
+unfoldable pub isShortRow : List ℕ → ℕ → Bool
+isShortRow s p = leb 10 (length s - p) && (ltb (getD s p 0) 128 && ltb (getD s (p + 1) 0) 128)
+
+-- the labels behind a row; samples have none
+abbrev pub labelsRead : Bool → List ℕ → ℕ → TextListRead
+labelsRead false s p = list.Got 0 p p
+labelsRead true s p = textListRead (textListAt s p)
+
+-- where the row for place p is: place 1 is the first row's
+abbrev pub rowPlace : ℕ → ℕ
+rowPlace p = cond (eqb p 1) 17 p

@@ -1,0 +1,19 @@
+-- Rows as the calls name them: their type by whether they have labels, and the place where they
+-- begin.
+-- To be believed. Assumes nothing.
+use mathlib.Core.Bool.{Bool, true, false}
+use Prim.Native.Nat.{ℕ}
+use Rattle.body_format.specs.Fields.{Field, got, fault}
+use Rattle.body_format.specs.Entries.{Kind, samples, exemplars}
+use Rattle.body_fields.specs.declared.Place.{Place}
+use Rattle.body_fields.specs.declared.Place.the-variants.{At, Fault}
+
+-- rows with labels are exemplars, rows without are samples
+abbrev pub rowsKind : Bool → Kind
+rowsKind false = samples
+rowsKind true = exemplars
+
+-- the place that a field's value is
+abbrev pub placeRead : Field ℕ → Place
+placeRead (got p next) = At p
+placeRead (fault why) = Fault why

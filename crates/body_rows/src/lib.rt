@@ -1,0 +1,302 @@
+// Types 2 and 4: rows, behind a first id and a first timestamp. Each is read at its place, or only
+// walked over to its end: counting needs no more.
+use body_fields::NumberRead;
+use body_fields::Place;
+use body_fields::TextListRead;
+use body_fields::ends::fixed_end;
+use body_fields::ends::list_end;
+use body_fields::ends::uvarint_end;
+use body_fields::fixed_at;
+use body_fields::text_list_at;
+use body_fields::uvarint_at;
+use body_format::EntryAnswer;
+use body_format::EntryView;
+use wal_types::Offset;
+use wal_types::Refusal;
+use wal_types::SeriesId;
+use wal_types::Timestamp;
+use wal_types::id_plus;
+use wal_types::time_of_bits;
+use wal_types::time_plus;
+ghost use mathlib.Core.Path.{_≡_};
+ghost use mathlib.Core.Bool.{Bool, true};
+ghost use Prim.Native.Nat.{_<_};
+ghost use lib.ListN.{length};
+ghost use Rattle.body_format.specs.Entries.{known, typeByte, firstAt, rowAt, entryAt};
+ghost use Rattle.body_format.specs.Reading.{answerEntry, entryKnown};
+ghost use Rattle.body_fields.specs.Ends.{endOf};
+ghost use Rattle.body_rows.specs.Rows.{rowsKind, placeRead};
+ghost use Rattle.body_rows.specs.Forms.{BaseIn, rowRead, rowGot, isShortRow, labelsRead, rowPlace};
+
+// The first place behind the first id and the first timestamp.
+const ROWS: usize = 17;
+
+// The bytes of a row whose deltas have one byte each.
+const SHORT_ROW: usize = 10;
+
+// The first id and the first timestamp.
+struct Base {
+    pub id: SeriesId,
+    pub time: Timestamp,
+}
+
+// A row's id, time and value, and the place after it.
+enum RowRead {
+    Got {
+        id: SeriesId,
+        time: Timestamp,
+        bits: u64,
+        next: usize,
+    },
+    Fault(Refusal),
+}
+
+// ---- a row
+
+// Bytes 1 to 16; 0 where they are not there.
+fn base_of(body: &[u8]) -> Base
+    ensures { λ r. ⌜ BaseIn (now (body .entry)) (r .id) (r .time) ⌝ }
+{
+    let id = big_endian::get_be8(body, 1);
+    let time = big_endian::get_be8(body, 9);
+    Base {
+        id: SeriesId(id),
+        time: time_of_bits(time),
+    }
+}
+
+// Whether a row at a place has deltas of one byte each. Nearly every row is such, and then needs
+// one test of its length, not three.
+fn is_short_row(body: &[u8], at: usize) -> bool
+    ensures { λ r. ⌜ r ≡ isShortRow (now (body .entry)) at ⌝ }
+{
+    if body.len() < at {
+        return false;
+    }
+    if body.len() - at < SHORT_ROW {
+        return false;
+    }
+    if 128 <= body[at] {
+        return false;
+    }
+    body[at + 1] < 128
+}
+
+// A row by its deltas. The first id and the first time come as two numbers, not as a Base: that
+// would be copied by one wide load right behind two narrow stores, which stalls.
+fn row_of(
+    first_id: SeriesId,
+    first_time: Timestamp,
+    from_id: u64,
+    from_time: u64,
+    bits: u64,
+    next: usize,
+) -> RowRead
+    ensures { λ r. ⌜ r ≡ rowGot «first_id» «first_time» «from_id» «from_time» bits next ⌝ }
+{
+    RowRead::Got {
+        id: id_plus(first_id, from_id),
+        time: time_plus(first_time, from_time),
+        bits,
+        next,
+    }
+}
+
+// Id delta, timestamp delta and value, field by field.
+fn long_row_at(body: &[u8], first_id: SeriesId, first_time: Timestamp, at: usize) -> RowRead
+    requires { ⌜ BaseIn (now body) «first_id» «first_time» ⌝ }
+    ensures { λ r. ⌜ r ≡ rowRead (rowAt (now (body .entry)) at) ⌝ }
+{
+    match uvarint_at(body, at) {
+        NumberRead::Got {
+            value: from_id,
+            next: second,
+        } => match uvarint_at(body, second) {
+            NumberRead::Got {
+                value: from_time,
+                next: third,
+            } => match fixed_at(body, third) {
+                NumberRead::Got { value: bits, next } => {
+                    row_of(first_id, first_time, from_id, from_time, bits, next)
+                }
+                NumberRead::Fault(why) => RowRead::Fault(why),
+            },
+            NumberRead::Fault(why) => RowRead::Fault(why),
+        },
+        NumberRead::Fault(why) => RowRead::Fault(why),
+    }
+}
+
+fn long_row_end(body: &[u8], at: usize) -> Place
+    ensures { λ r. ⌜ r ≡ endOf (rowAt (now (body .entry)) at) ⌝ }
+{
+    let second = uvarint_end(body, Place::At(at));
+    let third = uvarint_end(body, second);
+    fixed_end(body, third)
+}
+
+// What types 2 and 4 share.
+fn row_at(body: &[u8], first_id: SeriesId, first_time: Timestamp, at: usize) -> RowRead
+    requires { ⌜ BaseIn (now body) «first_id» «first_time» ⌝ }
+    ensures { λ r. ⌜ r ≡ rowRead (rowAt (now (body .entry)) at) ⌝ }
+{
+    if is_short_row(body, at) {
+        let second = at + 1;
+        let third = at + 2;
+        let next = at + SHORT_ROW;
+        let from_id = body[at] as u64;
+        let from_time = body[second] as u64;
+        let bits = big_endian::get_be8(body, third);
+        return row_of(first_id, first_time, from_id, from_time, bits, next);
+    }
+    long_row_at(body, first_id, first_time, at)
+}
+
+fn row_end(body: &[u8], at: usize) -> Place
+    ensures { λ r. ⌜ r ≡ endOf (rowAt (now (body .entry)) at) ⌝ }
+{
+    if is_short_row(body, at) {
+        let next = at + SHORT_ROW;
+        return Place::At(next);
+    }
+    long_row_end(body, at)
+}
+
+// ---- a row, and its labels
+
+// The labels behind a row; samples have none.
+fn labels_at(body: &[u8], labelled: bool, at: usize) -> TextListRead
+    ensures { λ r. ⌜ r ≡ labelsRead labelled (now (body .entry)) at ⌝ }
+{
+    if labelled {
+        text_list_at(body, at)
+    } else {
+        TextListRead::Got {
+            count: 0,
+            first: at,
+            next: at,
+        }
+    }
+}
+
+fn row_type(labelled: bool) -> u8
+    ensures { λ r. ⌜ r ≡ typeByte (rowsKind labelled) ⌝ }
+{
+    if labelled { 4 } else { 2 }
+}
+
+// The entry at a place within the rows.
+fn row_entry_at(
+    body: &[u8],
+    labelled: bool,
+    first_id: SeriesId,
+    first_time: Timestamp,
+    at: usize,
+) -> EntryAnswer
+    requires { ⌜ BaseIn (now body) «first_id» «first_time» ⌝ }
+    ensures { λ r. ⌜ r ≡ answerEntry (entryAt (rowsKind labelled) (now (body .entry)) at) ⌝ }
+{
+    match row_at(body, first_id, first_time, at) {
+        RowRead::Got {
+            id,
+            time,
+            bits,
+            next: labels,
+        } => match labels_at(body, labelled, labels) {
+            TextListRead::Got { count, first, next } => EntryAnswer::Found(EntryView {
+                kind: row_type(labelled),
+                id,
+                time,
+                max: Timestamp(0),
+                bits,
+                strings: count,
+                first: Offset(first),
+                next: Offset(next),
+            }),
+            TextListRead::Fault(why) => EntryAnswer::Refused(why),
+        },
+        RowRead::Fault(why) => EntryAnswer::Refused(why),
+    }
+}
+
+// The place after the entry at a place within the rows.
+pub fn row_entry_end(body: &[u8], labelled: bool, at: usize) -> Place
+    ensures { λ r. ⌜ r ≡ endOf (entryAt (rowsKind labelled) (now (body .entry)) at) ⌝ }
+{
+    let labels = row_end(body, at);
+    if labelled {
+        list_end(body, labels)
+    } else {
+        labels
+    }
+}
+
+// ---- a place of a body
+
+// Rows begin behind the first id and the first timestamp, unless there is nothing behind the type
+// byte.
+pub fn rows_begin(body: &[u8]) -> Place
+    ensures { λ r. ⌜ r ≡ placeRead (firstAt true (now (body .entry))) ⌝ }
+{
+    if body.len() == 1 {
+        return Place::At(1);
+    }
+    if body.len() < 9 {
+        return Place::Fault(Refusal::Short(Offset(1)));
+    }
+    if body.len() < ROWS {
+        return Place::Fault(Refusal::Short(Offset(9)));
+    }
+    Place::At(ROWS)
+}
+
+// A body that ends before its rows: place 1 is its end where nothing stands behind the type byte,
+// and no other place is good. It asks for the lengths that `rows_begin` asks for: to take that
+// one's answer apart again was slower (docs/DECISIONS.md, 34).
+fn no_row(body: &[u8], at: usize) -> EntryAnswer
+    requires { ⌜ length (now body) < 17 ⌝ }
+    ensures { λ r. ⌜ ((labelled : Bool) → r ≡ entryKnown (known (rowsKind labelled)) (now (body .entry)) at) ⌝ }
+{
+    if at != 1 {
+        return EntryAnswer::Refused(Refusal::BadPlace);
+    }
+    if body.len() == 0 {
+        return EntryAnswer::Refused(Refusal::BadPlace);
+    }
+    if body.len() == 1 {
+        return EntryAnswer::End;
+    }
+    if body.len() < 9 {
+        return EntryAnswer::Refused(Refusal::Short(Offset(1)));
+    }
+    EntryAnswer::Refused(Refusal::Short(Offset(9)))
+}
+
+// Where the row for a place is: place 1 is the first row's.
+fn row_place(at: usize) -> usize
+    ensures { λ r. ⌜ r ≡ rowPlace at ⌝ }
+{
+    if at == 1 { ROWS } else { at }
+}
+
+// The row at a place of a body, with its labels, or the plain end at the body's end. Once there are
+// 17 bytes, nothing asks again whether the first id and the first timestamp are there.
+pub fn row_entry(body: &[u8], labelled: bool, at: usize) -> EntryAnswer
+    ensures { λ r. ⌜ r ≡ entryKnown (known (rowsKind labelled)) (now (body .entry)) at ⌝ }
+{
+    if body.len() < ROWS {
+        return no_row(body, at);
+    }
+    let from = row_place(at);
+    if from < ROWS {
+        return EntryAnswer::Refused(Refusal::BadPlace);
+    }
+    if body.len() < from {
+        return EntryAnswer::Refused(Refusal::BadPlace);
+    }
+    if body.len() == from {
+        return EntryAnswer::End;
+    }
+    let base = base_of(body);
+    row_entry_at(body, labelled, base.id, base.time, from)
+}
