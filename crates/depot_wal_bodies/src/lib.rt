@@ -162,7 +162,7 @@ pub extern "C" fn depot_wal_add_metadata(
 pub extern "C" fn depot_wal_body_check(bytes: &[u8], out: &mut [u64; 1]) -> u32
     ensures { λ r. ⌜ (r ≡ checkCode (checkBody (now (bytes .entry)))) × (now (out .exit) ≡ checkOut (checkBody (now (bytes .entry)))) ⌝ }
 {
-    let answer = body::check(bytes);
+    let answer = body_reader::check(bytes);
     tell_check(answer, out)
 }
 
@@ -171,7 +171,7 @@ pub extern "C" fn depot_wal_body_check(bytes: &[u8], out: &mut [u64; 1]) -> u32
 pub extern "C" fn depot_wal_entry_at(bytes: &[u8], place: usize, out: &mut [u64; 8]) -> u32
     ensures { λ r. ⌜ (r ≡ entryCode (readEntry (now (bytes .entry)) place)) × (now (out .exit) ≡ entryOut (readEntry (now (bytes .entry)) place)) ⌝ }
 {
-    let answer = body::entry_at(bytes, Offset(place));
+    let answer = body_reader::entry_at(bytes, Offset(place));
     tell_entry(answer, out)
 }
 
@@ -180,6 +180,6 @@ pub extern "C" fn depot_wal_entry_at(bytes: &[u8], place: usize, out: &mut [u64;
 pub extern "C" fn depot_wal_string_at(bytes: &[u8], place: usize, out: &mut [u64; 2]) -> u32
     ensures { λ r. ⌜ (r ≡ stringCode (readString (now (bytes .entry)) place)) × (now (out .exit) ≡ stringOut (readString (now (bytes .entry)) place)) ⌝ }
 {
-    let answer = body::string_at(bytes, Offset(place));
+    let answer = body_reader::string_at(bytes, Offset(place));
     tell_string(answer, out)
 }

@@ -81,7 +81,7 @@ fn count_samples(body: &[u8]) -> CheckAnswer
     }
     let kind = body[0];
     match kind {
-        2 => body::check(body),
+        2 => body_reader::check(body),
         1 => CheckAnswer::Refused(Refusal::WrongKind),
         3 => CheckAnswer::Refused(Refusal::WrongKind),
         4 => CheckAnswer::Refused(Refusal::WrongKind),
@@ -136,7 +136,7 @@ fn fill_rows(body: &[u8], count: usize, list: &mut [Sample])
 fn row_at(body: &[u8], place: usize) -> Row
     ensures { λ r. ⌜ r ≡ rowAt (now (body .entry)) place ⌝ }
 {
-    let answer = body::entry_at(body, Offset(place));
+    let answer = body_reader::entry_at(body, Offset(place));
     row_of(answer, place)
 }
 
