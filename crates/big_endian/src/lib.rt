@@ -6,7 +6,7 @@ ghost use mathlib.Core.Path.{_≡_};
 ghost use Prim.Native.Nat.{_+_, _≤_, _<_, _^_};
 ghost use lib.ListN.{length, drop};
 ghost use lib.Seq.{sets};
-ghost use Rattle.copying.specs.Put.{putAt, putEnd};
+ghost use Rattle.byte_copy.specs.Put.{putAt, putEnd};
 ghost use Rattle.big_endian.specs.Fixed.{be4, be8, readBe4, readBe8};
 
 // Puts the eight bytes of x at a place of buf.

@@ -13,8 +13,8 @@ use Rattle.wal_types.specs.declared.Refusal.the-variants.{BadPlace, TooLong, No
 use Rattle.wal_types.specs.Terms.{offset}
 use Rattle.wal_types.specs.Deltas.{toBits}
 use Rattle.uvarint.specs.Uvarint.{uvarint}
-use Rattle.body_format.specs.Entries.{Entry, seriesEntry, exemplarEntry, metadataEntry, typeByte, kindFor}
-use Rattle.body_format.specs.Building.{Outcome, used, refused, badState, add, addBytes, entryBytes, rowBytes, textListBytes, cutTexts, badList}
+use Rattle.body_format.specs.Entries.{Entry, seriesEntry, exemplarEntry, metadataEntry, typeByte, bodyTypeFor}
+use Rattle.body_format.specs.Building.{Outcome, used, refused, badState, add, addBytes, entryBytes, rowBytes, stringListBytes, cutStrings, badList}
 use Rattle.body_format.specs.Laws.Additions.{state-past, accepted}
 use Rattle.body_format.specs.Laws.Strings.{length-series, length-exemplar, length-metadata}
 use Rattle.body_builder.specs.declared.Added.the-variants.{Next, Refused}
@@ -47,9 +47,9 @@ module _ (b : List ℕ) (t u want : ℕ) (bad : Bool) (n : ℕ) where
   gate-place h = rw h
 
   module _ (h : badState b t u ≡ false) where
-    pub gate-kind : (t ≡ want → ⊥) → Shut WrongKind ≡ gateFor (decided b t u want bad n)
+    pub gate-tag : (t ≡ want → ⊥) → Shut WrongKind ≡ gateFor (decided b t u want bad n)
     unfolding decided
-    gate-kind k = rw (h, ne-eqb t want k)
+    gate-tag k = rw (h, ne-eqb t want k)
 
     module _ (k : t ≡ want) where
       pub gate-list : bad ≡ true → Shut BadList ≡ gateFor (decided b t u want bad n)
@@ -76,11 +76,11 @@ fitting-same b u n m (exact e) = ap (fitting b u) e
 fitting-same b u n m (above x y) = rw (lt-ltb 65536 (u + n) (omega arith), lt-ltb 65536 (u + m) (omega arith))
 
 decided-is : (b : List ℕ) (t u : ℕ) (e : Entry) (bad : Bool) (n : ℕ) → (bad ≡ false → Sized n (length (entryBytes b u e)))
-    → decided b t u (typeByte (kindFor e)) bad n ≡ add b t u e bad
+    → decided b t u (typeByte (bodyTypeFor e)) bad n ≡ add b t u e bad
 unfolding decided add
 decided-is b t u e true n h = refl
 decided-is b t u e false n h =
-    ap (λ (o : Outcome). cond (badState b t u) (refused BadPlace) (cond (not (eqb t (typeByte (kindFor e)))) (refused WrongKind) o))
+    ap (λ (o : Outcome). cond (badState b t u) (refused BadPlace) (cond (not (eqb t (typeByte (bodyTypeFor e)))) (refused WrongKind) o))
     (fitting-same b u n (length (entryBytes b u e)) (h refl))
 
 pub record Opened (b : List ℕ) (t u : ℕ) (e : Entry) (bad : Bool) : Type 0 where
@@ -89,7 +89,7 @@ pub record Opened (b : List ℕ) (t u : ℕ) (e : Entry) (bad : Bool) : Type 0 w
   pub is : add b t u e bad ≡ used (u + length (entryBytes b u e))
 
 module _ (b : List ℕ) (t u : ℕ) (e : Entry) (bad : Bool) (n : ℕ) (size : bad ≡ false → Sized n (length (entryBytes b u e)))
-    (r : Gate) (gate : r ≡ gateFor (decided b t u (typeByte (kindFor e)) bad n)) where
+    (r : Gate) (gate : r ≡ gateFor (decided b t u (typeByte (bodyTypeFor e)) bad n)) where
   gate-add : r ≡ gateFor (add b t u e bad)
   gate-add = gate ∙ ap gateFor (decided-is b t u e bad n size)
 
@@ -110,23 +110,23 @@ module _ (b : List ℕ) (t u : ℕ) (e : Entry) (bad : Bool) (n : ℕ) (size : b
       go (refused w) a k = (cc, refl)
 
 pub finished : (b : List ℕ) (t u : ℕ) (e : Entry) (bad : Bool) (d : List ℕ) (next : ℕ) → Opened b t u e bad → Put b u (entryBytes b u e) d next
-    → (Next (record { kind = t; used = offset next }) ≡ addedOf t (add b t u e bad)) × (d ≡ addBytes (add b t u e bad) b u e)
-finished b t u e bad d next o (p, q) = rw (o .is) (ap (λ (n : ℕ). Next (record { kind = t; used = offset n })) p, q)
+    → (Next (record { tag = t; used = offset next }) ≡ addedOf t (add b t u e bad)) × (d ≡ addBytes (add b t u e bad) b u e)
+finished b t u e bad d next o (p, q) = rw (o .is) (ap (λ (n : ℕ). Next (record { tag = t; used = offset n })) p, q)
 
 -- ---- the sizes of entries with strings
 
 module _ (b : List ℕ) (u : ℕ) (strings lengths : List ℕ) (list : ℕ) (e : list ≡ listSize (length strings) lengths)
     (good : badList strings lengths ≡ false) where
-  listed : Sized list (length (textListBytes (cutTexts strings lengths)))
+  listed : Sized list (length (stringListBytes (cutStrings strings lengths)))
   listed = rw e (list-sized strings lengths (good-sum strings lengths good))
 
-  pub series-sized : (id : ℕ) → Sized (8 + list) (length (entryBytes b u (seriesEntry id (cutTexts strings lengths))))
-  series-sized id = rw (length-series b u id (cutTexts strings lengths)) (more 8 listed)
+  pub series-sized : (id : ℕ) → Sized (8 + list) (length (entryBytes b u (seriesEntry id (cutStrings strings lengths))))
+  series-sized id = rw (length-series b u id (cutStrings strings lengths)) (more 8 listed)
 
   pub exemplar-sized : (id : ℕ) (time : ℤ) (v row : ℕ) → row ≡ length (rowBytes b u id (toBits time) v)
-      → Sized (row + list) (length (entryBytes b u (exemplarEntry id time v (cutTexts strings lengths))))
-  exemplar-sized id time v row h = rw (length-exemplar b u id time v (cutTexts strings lengths), ← h) (more row listed)
+      → Sized (row + list) (length (entryBytes b u (exemplarEntry id time v (cutStrings strings lengths))))
+  exemplar-sized id time v row h = rw (length-exemplar b u id time v (cutStrings strings lengths), ← h) (more row listed)
 
   pub metadata-sized : (id m head : ℕ) → head ≡ length (uvarint id) + 1
-      → Sized (head + list) (length (entryBytes b u (metadataEntry id m (cutTexts strings lengths))))
-  metadata-sized id m head h = rw (length-metadata b u id m (cutTexts strings lengths), ← h) (more head listed)
+      → Sized (head + list) (length (entryBytes b u (metadataEntry id m (cutStrings strings lengths))))
+  metadata-sized id m head h = rw (length-metadata b u id m (cutStrings strings lengths), ← h) (more head listed)

@@ -5,9 +5,9 @@ use Prim.Native.Nat.{ℕ, _+_, _≤_}
 use native.Mathlib.Omega.{arith}
 use lib.ListN.{length, length-append}
 use lib.Seq.{sets, length-sets}
-use Rattle.copying.specs.Put.{putAt, putEnd}
-use Rattle.copying.specs.PutLaws.{put-fits, end-fits}
-use Rattle.copying.specs.CopiedLaws.{sets-append}
+use Rattle.byte_copy.specs.Put.{putAt, putEnd}
+use Rattle.byte_copy.specs.PutLaws.{put-fits, end-fits}
+use Rattle.byte_copy.specs.CopiedLaws.{sets-append}
 
 -- the bytes vs stand from place `at` on, d′ is the slice then, and r the place after them
 abbrev pub Put : List ℕ → ℕ → List ℕ → List ℕ → ℕ → Type 0

@@ -10,14 +10,14 @@ use lib.Dec.{ltb, eqb}
 use lib.ListN.{length, getD, drop, set, drop-of-length-le, length-drop, length-set}
 use lib.Seq.{drop-cons, sets}
 use Rattle.wal_types.specs.Deltas.{minus}
-use Rattle.copying.specs.Put.{putAt, putEnd}
+use Rattle.byte_copy.specs.Put.{putAt, putEnd}
 use Rattle.uvarint.specs.Uvarint.{uvarint}
 use Rattle.uvarint.specs.UvarintLaws.{one-group, length-at-least-1}
 use Rattle.big_endian.specs.Fixed.{be8, readBe8}
 use Rattle.big_endian.specs.FixedLaws.{length-be8}
-use Rattle.body_format.specs.Building.{textsBytes, textListBytes, cutTexts, total, badList, rowBytes}
+use Rattle.body_format.specs.Building.{stringsBytes, stringListBytes, cutStrings, total, badList, rowBytes}
 use Rattle.body_format.specs.Laws.Fields.{length-list}
-use Rattle.body_format.specs.Laws.Strings.{length-cut, length-cut-texts, row-first, row-later, length-row-first, length-row-later}
+use Rattle.body_format.specs.Laws.Strings.{length-cut, length-cut-strings, row-first, row-later, length-row-first, length-row-later}
 use Rattle.body_builder.specs.declared.builder.Deltas.{Deltas}
 use Rattle.body_builder.specs.Sizes.{rowSize, rowTail, deltasIn, heads, listSize}
 use Rattle.body_builder.proofs.Putting.{Put, put-last, put-first, room-then, put-then}
@@ -95,30 +95,30 @@ good-sum bytes lengths h = go (eqb (length lengths % 2) 1) (eqb (total lengths) 
     go false false e k = let z : _≡_ {A = ℕ} 0 1 = cc in absurd (omega arith)
 
 cut-size : (bytes lengths : List ℕ) → total lengths ≡ length bytes
-    → length (textsBytes (cutTexts bytes lengths)) ≡ heads lengths + length bytes
-unfolding cutTexts textsBytes heads total
+    → length (stringsBytes (cutStrings bytes lengths)) ≡ heads lengths + length bytes
+unfolding cutStrings stringsBytes heads total
 cut-size bytes [] e = omega arith
 cut-size bytes (n ∷ lengths) e =
     omega (
       arith,
-      length-cut-texts bytes lengths n (omega arith),
+      length-cut-strings bytes lengths n (omega arith),
       cut-size (drop n bytes) lengths (omega (arith, length-drop n bytes)),
       length-drop n bytes,
     )
 
 pub list-sized : (bytes lengths : List ℕ) → total lengths ≡ length bytes
-    → Sized (listSize (length bytes) lengths) (length (textListBytes (cutTexts bytes lengths)))
+    → Sized (listSize (length bytes) lengths) (length (stringListBytes (cutStrings bytes lengths)))
 unfolding listSize
 list-sized bytes lengths e = go (ltb 65536 (length lengths)) (ltb 65536 (length bytes)) refl refl
   where
-    count : length (uvarint (length (cutTexts bytes lengths) / 2)) ≡ length (uvarint (length lengths / 2))
+    count : length (uvarint (length (cutStrings bytes lengths) / 2)) ≡ length (uvarint (length lengths / 2))
     count = ap (λ (n : ℕ). length (uvarint (n / 2))) (length-cut bytes lengths)
 
-    whole : length (textListBytes (cutTexts bytes lengths)) ≡ length (uvarint (length lengths / 2)) + heads lengths + length bytes
-    whole = omega (arith, length-list (cutTexts bytes lengths), count, cut-size bytes lengths e)
+    whole : length (stringListBytes (cutStrings bytes lengths)) ≡ length (uvarint (length lengths / 2)) + heads lengths + length bytes
+    whole = omega (arith, length-list (cutStrings bytes lengths), count, cut-size bytes lengths e)
 
     go : (t u : Bool) → ltb 65536 (length lengths) ≡ t → ltb 65536 (length bytes) ≡ u
-        → Sized (cond t 65537 (cond u 65537 (length (uvarint (length lengths / 2)) + heads lengths + length bytes))) (length (textListBytes (cutTexts bytes lengths)))
+        → Sized (cond t 65537 (cond u 65537 (length (uvarint (length lengths / 2)) + heads lengths + length bytes))) (length (stringListBytes (cutStrings bytes lengths)))
     go true u a b = above (omega arith) (omega (arith, ltb-true 65536 (length lengths) a, heads-least lengths, whole))
     go false true a b = above (omega arith) (omega (arith, ltb-true 65536 (length bytes) b, whole))
     go false false a b = exact (sym whole)

@@ -8,5 +8,5 @@ use Rattle.body_builder.specs.declared.Added.the-variants.{Next, Refused
 
 -- of a body of type t: the next state, which is its type and the bytes used, or the refusal
 abbrev pub addedOf : ℕ → Outcome → Added
-addedOf t (used n) = Next (record { kind = t; used = offset n })
+addedOf t (used n) = Next (record { tag = t; used = offset n })
 addedOf t (refused why) = Refused why

@@ -1,5 +1,10 @@
 // Building: what decides a start or an addition, and the bytes of an entry at a place that has room for them.
-use crate::lent::put_list;
+use crate::strings::put_list;
+use body_format::EXEMPLARS;
+use body_format::METADATA;
+use body_format::SAMPLES;
+use body_format::SERIES;
+use body_format::TOMBSTONES;
 use wal_types::Offset;
 use wal_types::RECORD_LIMIT;
 use wal_types::Refusal;
@@ -14,8 +19,8 @@ ghost use Prim.Native.Nat.{_+_, _≤_, _<_};
 ghost use lib.ListN.{length};
 ghost use lib.Seq.{sets};
 ghost use Rattle.wal_types.specs.Deltas.{toBits};
-ghost use Rattle.body_format.specs.Building.{badState, cutTexts, total, rowBytes, entryBytes};
-ghost use Rattle.body_format.specs.Entries.{kindOf, rowsKnown, seriesEntry, tombstoneEntry, metadataEntry};
+ghost use Rattle.body_format.specs.Building.{badState, cutStrings, total, rowBytes, entryBytes};
+ghost use Rattle.body_format.specs.Entries.{bodyTypeOf, rowsKnown, seriesEntry, tombstoneEntry, metadataEntry};
 ghost use Rattle.body_builder.specs.Sizes.{isKnown, decided, gateFor, deltasIn, rowSize, rowTail, tombstoneSize};
 
 // The bytes of the first row: the first id and timestamp, two deltas of one byte each, and the value.
@@ -34,32 +39,32 @@ pub(crate) struct Deltas {
 }
 
 // The types 1 to 4 and 6.
-pub(crate) fn is_known(kind: u8) -> bool
-    ensures { λ r. ⌜ r ≡ isKnown (kindOf kind) ⌝ }
+pub(crate) fn is_known(tag: u8) -> bool
+    ensures { λ r. ⌜ r ≡ isKnown (bodyTypeOf tag) ⌝ }
 {
-    match kind {
-        1 => true,
-        2 => true,
-        3 => true,
-        4 => true,
-        6 => true,
+    match tag {
+        SERIES => true,
+        SAMPLES => true,
+        TOMBSTONES => true,
+        EXEMPLARS => true,
+        METADATA => true,
         _ => false,
     }
 }
 
 // The types with rows, 2 and 4.
-fn is_row_type(kind: u8) -> bool
-    ensures { λ r. ⌜ r ≡ rowsKnown (kindOf kind) ⌝ }
+fn is_row_type(tag: u8) -> bool
+    ensures { λ r. ⌜ r ≡ rowsKnown (bodyTypeOf tag) ⌝ }
 {
-    if kind == 2 {
+    if tag == SAMPLES {
         return true;
     }
-    kind == 4
+    tag == EXEMPLARS
 }
 
-// BadPlace: a state (kind, used) that no body in the buffer has.
-fn state_is_bad(buffer: &[u8], kind: u8, used: usize) -> bool
-    ensures { λ r. ⌜ r ≡ badState (now (buffer .entry)) kind used ⌝ }
+// BadPlace: a state (tag, used) that no body in the buffer has.
+fn state_is_bad(buffer: &[u8], tag: u8, used: usize) -> bool
+    ensures { λ r. ⌜ r ≡ badState (now (buffer .entry)) tag used ⌝ }
 {
     if used == 0 {
         return true;
@@ -67,10 +72,10 @@ fn state_is_bad(buffer: &[u8], kind: u8, used: usize) -> bool
     if buffer.len() < used {
         return true;
     }
-    if buffer[0] != kind {
+    if buffer[0] != tag {
         return true;
     }
-    if !is_row_type(kind) {
+    if !is_row_type(tag) {
         return false;
     }
     if used < 2 {
@@ -79,14 +84,14 @@ fn state_is_bad(buffer: &[u8], kind: u8, used: usize) -> bool
     used <= 16
 }
 
-// Decides by numbers alone: the state (kind, used), the type that the entry belongs in, whether its list is bad, and its size.
-pub(crate) fn admit(buffer: &[u8], kind: u8, used: usize, want: u8, bad: bool, size: usize) -> Gate
-    ensures { λ r. ⌜ r ≡ gateFor (decided (now (buffer .entry)) kind used want bad size) ⌝ }
+// Decides by numbers alone: the state (tag, used), the type that the entry belongs in, whether its list is bad, and its size.
+pub(crate) fn admit(buffer: &[u8], tag: u8, used: usize, want: u8, bad: bool, size: usize) -> Gate
+    ensures { λ r. ⌜ r ≡ gateFor (decided (now (buffer .entry)) tag used want bad size) ⌝ }
 {
-    if state_is_bad(buffer, kind, used) {
+    if state_is_bad(buffer, tag, used) {
         return Gate::Shut(Refusal::BadPlace);
     }
-    if kind != want {
+    if tag != want {
         return Gate::Shut(Refusal::WrongKind);
     }
     if bad {
@@ -223,9 +228,9 @@ pub(crate) fn put_series(
     strings: &[u8],
     lengths: &[u64],
 ) -> usize
-    requires { ⌜ (total (now lengths) ≡ length (now strings)) × (at + length (entryBytes (now buffer) at (seriesEntry (id .0) (cutTexts (now strings) (now lengths)))) ≤ length (now buffer)) ⌝ }
-    ensures { λ r. ⌜ r ≡ at + length (entryBytes (now (buffer .entry)) at (seriesEntry (id .0) (cutTexts (now (strings .entry)) (now (lengths .entry))))) ⌝ }
-    ensures { λ _. ⌜ now (buffer .exit) ≡ sets (now (buffer .entry)) at (entryBytes (now (buffer .entry)) at (seriesEntry (id .0) (cutTexts (now (strings .entry)) (now (lengths .entry))))) ⌝ }
+    requires { ⌜ (total (now lengths) ≡ length (now strings)) × (at + length (entryBytes (now buffer) at (seriesEntry (id .0) (cutStrings (now strings) (now lengths)))) ≤ length (now buffer)) ⌝ }
+    ensures { λ r. ⌜ r ≡ at + length (entryBytes (now (buffer .entry)) at (seriesEntry (id .0) (cutStrings (now (strings .entry)) (now (lengths .entry))))) ⌝ }
+    ensures { λ _. ⌜ now (buffer .exit) ≡ sets (now (buffer .entry)) at (entryBytes (now (buffer .entry)) at (seriesEntry (id .0) (cutStrings (now (strings .entry)) (now (lengths .entry))))) ⌝ }
 {
     let list = big_endian::put_be8(buffer, at, id.0);
     put_list(buffer, list, strings, lengths)
@@ -240,9 +245,9 @@ pub(crate) fn put_metadata(
     strings: &[u8],
     lengths: &[u64],
 ) -> usize
-    requires { ⌜ (total (now lengths) ≡ length (now strings)) × (at + length (entryBytes (now buffer) at (metadataEntry (id .0) metric (cutTexts (now strings) (now lengths)))) ≤ length (now buffer)) ⌝ }
-    ensures { λ r. ⌜ r ≡ at + length (entryBytes (now (buffer .entry)) at (metadataEntry (id .0) metric (cutTexts (now (strings .entry)) (now (lengths .entry))))) ⌝ }
-    ensures { λ _. ⌜ now (buffer .exit) ≡ sets (now (buffer .entry)) at (entryBytes (now (buffer .entry)) at (metadataEntry (id .0) metric (cutTexts (now (strings .entry)) (now (lengths .entry))))) ⌝ }
+    requires { ⌜ (total (now lengths) ≡ length (now strings)) × (at + length (entryBytes (now buffer) at (metadataEntry (id .0) metric (cutStrings (now strings) (now lengths)))) ≤ length (now buffer)) ⌝ }
+    ensures { λ r. ⌜ r ≡ at + length (entryBytes (now (buffer .entry)) at (metadataEntry (id .0) metric (cutStrings (now (strings .entry)) (now (lengths .entry))))) ⌝ }
+    ensures { λ _. ⌜ now (buffer .exit) ≡ sets (now (buffer .entry)) at (entryBytes (now (buffer .entry)) at (metadataEntry (id .0) metric (cutStrings (now (strings .entry)) (now (lengths .entry))))) ⌝ }
 {
     let second = uvarint::put_uvarint(buffer, at, id.0);
     buffer[second] = metric;

@@ -1,8 +1,13 @@
 // Building a record body in a lent slice, entry by entry. What the calls answer, and every lent byte afterwards, is what the definitions
 // of the crate body_format say.
 mod builder;
-mod lent;
+mod strings;
 
+use body_format::EXEMPLARS;
+use body_format::METADATA;
+use body_format::SAMPLES;
+use body_format::SERIES;
+use body_format::TOMBSTONES;
 use builder::Gate;
 use builder::admit;
 use builder::deltas_of;
@@ -13,9 +18,9 @@ use builder::put_series;
 use builder::put_tombstone;
 use builder::row_size;
 use builder::tombstone_size;
-use lent::list_is_bad;
-use lent::list_size;
-use lent::put_list;
+use strings::list_is_bad;
+use strings::list_size;
+use strings::put_list;
 use wal_types::Offset;
 use wal_types::Refusal;
 use wal_types::SeriesId;
@@ -26,7 +31,7 @@ ghost use Rattle.body_builder.specs.Answers.{addedOf};
 
 // The state of a body that is being built in a lent buffer: its type, and the bytes used.
 pub struct Body {
-    pub kind: u8,
+    pub tag: u8,
     pub used: Offset,
 }
 
@@ -37,20 +42,20 @@ pub enum Added {
 }
 
 impl Body {
-    // A body of the type `kind`, with no entry yet.
-    pub fn start(buffer: &mut [u8], kind: u8) -> Added
-        ensures answer { λ r. ⌜ r ≡ addedOf kind (starter (now (buffer .entry)) kind .outcome) ⌝ }
-        ensures bytes { λ _. ⌜ now (buffer .exit) ≡ starter (now (buffer .entry)) kind .buffer ⌝ }
+    // A body of the type `tag`, with no entry yet.
+    pub fn start(buffer: &mut [u8], tag: u8) -> Added
+        ensures answer { λ r. ⌜ r ≡ addedOf tag (starter (now (buffer .entry)) tag .outcome) ⌝ }
+        ensures bytes { λ _. ⌜ now (buffer .exit) ≡ starter (now (buffer .entry)) tag .buffer ⌝ }
     {
-        if !is_known(kind) {
+        if !is_known(tag) {
             return Added::Refused(Refusal::UnknownType);
         }
         if buffer.len() == 0 {
             return Added::Refused(Refusal::NoRoom(Offset(0)));
         }
-        buffer[0] = kind;
+        buffer[0] = tag;
         Added::Next(Body {
-            kind,
+            tag,
             used: Offset(1),
         })
     }
@@ -63,14 +68,14 @@ impl Body {
         strings: &[u8],
         lengths: &[u64],
     ) -> Added
-        ensures answer { λ r. ⌜ r ≡ addedOf (self .kind) (builder (now (buffer .entry)) (self .kind) (self .used .0) (addSeries (id .0) (now (strings .entry)) (now (lengths .entry))) .outcome) ⌝ }
-        ensures bytes { λ _. ⌜ now (buffer .exit) ≡ builder (now (buffer .entry)) (self .kind) (self .used .0) (addSeries (id .0) (now (strings .entry)) (now (lengths .entry))) .buffer ⌝ }
+        ensures answer { λ r. ⌜ r ≡ addedOf (self .tag) (builder (now (buffer .entry)) (self .tag) (self .used .0) (addSeries (id .0) (now (strings .entry)) (now (lengths .entry))) .outcome) ⌝ }
+        ensures bytes { λ _. ⌜ now (buffer .exit) ≡ builder (now (buffer .entry)) (self .tag) (self .used .0) (addSeries (id .0) (now (strings .entry)) (now (lengths .entry))) .buffer ⌝ }
     {
         let at = self.used.0;
         let bad = list_is_bad(strings, lengths);
         let list = list_size(strings, lengths);
         let size = 8 + list;
-        match admit(&*buffer, self.kind, at, 1, bad, size) {
+        match admit(&*buffer, self.tag, at, SERIES, bad, size) {
             Gate::Open => {
                 let next = put_series(buffer, at, id, strings, lengths);
                 self.used.0 = next;
@@ -88,13 +93,13 @@ impl Body {
         time: Timestamp,
         bits: u64,
     ) -> Added
-        ensures answer { λ r. ⌜ r ≡ addedOf (self .kind) (builder (now (buffer .entry)) (self .kind) (self .used .0) (addSample (id .0) (time .0) bits) .outcome) ⌝ }
-        ensures bytes { λ _. ⌜ now (buffer .exit) ≡ builder (now (buffer .entry)) (self .kind) (self .used .0) (addSample (id .0) (time .0) bits) .buffer ⌝ }
+        ensures answer { λ r. ⌜ r ≡ addedOf (self .tag) (builder (now (buffer .entry)) (self .tag) (self .used .0) (addSample (id .0) (time .0) bits) .outcome) ⌝ }
+        ensures bytes { λ _. ⌜ now (buffer .exit) ≡ builder (now (buffer .entry)) (self .tag) (self .used .0) (addSample (id .0) (time .0) bits) .buffer ⌝ }
     {
         let at = self.used.0;
         let row = deltas_of(&*buffer, id, time);
         let size = row_size(at, row);
-        match admit(&*buffer, self.kind, at, 2, false, size) {
+        match admit(&*buffer, self.tag, at, SAMPLES, false, size) {
             Gate::Open => {
                 let next = put_row(buffer, at, id, time, row, bits);
                 self.used.0 = next;
@@ -112,12 +117,12 @@ impl Body {
         min: Timestamp,
         max: Timestamp,
     ) -> Added
-        ensures answer { λ r. ⌜ r ≡ addedOf (self .kind) (builder (now (buffer .entry)) (self .kind) (self .used .0) (addTombstone (id .0) (min .0) (max .0)) .outcome) ⌝ }
-        ensures bytes { λ _. ⌜ now (buffer .exit) ≡ builder (now (buffer .entry)) (self .kind) (self .used .0) (addTombstone (id .0) (min .0) (max .0)) .buffer ⌝ }
+        ensures answer { λ r. ⌜ r ≡ addedOf (self .tag) (builder (now (buffer .entry)) (self .tag) (self .used .0) (addTombstone (id .0) (min .0) (max .0)) .outcome) ⌝ }
+        ensures bytes { λ _. ⌜ now (buffer .exit) ≡ builder (now (buffer .entry)) (self .tag) (self .used .0) (addTombstone (id .0) (min .0) (max .0)) .buffer ⌝ }
     {
         let at = self.used.0;
         let size = tombstone_size(min, max);
-        match admit(&*buffer, self.kind, at, 3, false, size) {
+        match admit(&*buffer, self.tag, at, TOMBSTONES, false, size) {
             Gate::Open => {
                 let next = put_tombstone(buffer, at, id, min, max);
                 self.used.0 = next;
@@ -137,15 +142,15 @@ impl Body {
         strings: &[u8],
         lengths: &[u64],
     ) -> Added
-        ensures answer { λ r. ⌜ r ≡ addedOf (self .kind) (builder (now (buffer .entry)) (self .kind) (self .used .0) (addExemplar (id .0) (time .0) bits (now (strings .entry)) (now (lengths .entry))) .outcome) ⌝ }
-        ensures bytes { λ _. ⌜ now (buffer .exit) ≡ builder (now (buffer .entry)) (self .kind) (self .used .0) (addExemplar (id .0) (time .0) bits (now (strings .entry)) (now (lengths .entry))) .buffer ⌝ }
+        ensures answer { λ r. ⌜ r ≡ addedOf (self .tag) (builder (now (buffer .entry)) (self .tag) (self .used .0) (addExemplar (id .0) (time .0) bits (now (strings .entry)) (now (lengths .entry))) .outcome) ⌝ }
+        ensures bytes { λ _. ⌜ now (buffer .exit) ≡ builder (now (buffer .entry)) (self .tag) (self .used .0) (addExemplar (id .0) (time .0) bits (now (strings .entry)) (now (lengths .entry))) .buffer ⌝ }
     {
         let at = self.used.0;
         let bad = list_is_bad(strings, lengths);
         let row = deltas_of(&*buffer, id, time);
         let list = list_size(strings, lengths);
         let size = row_size(at, row) + list;
-        match admit(&*buffer, self.kind, at, 4, bad, size) {
+        match admit(&*buffer, self.tag, at, EXEMPLARS, bad, size) {
             Gate::Open => {
                 let labels = put_row(buffer, at, id, time, row, bits);
                 let next = put_list(buffer, labels, strings, lengths);
@@ -165,15 +170,15 @@ impl Body {
         strings: &[u8],
         lengths: &[u64],
     ) -> Added
-        ensures answer { λ r. ⌜ r ≡ addedOf (self .kind) (builder (now (buffer .entry)) (self .kind) (self .used .0) (addMetadata (id .0) «metric_type» (now (strings .entry)) (now (lengths .entry))) .outcome) ⌝ }
-        ensures bytes { λ _. ⌜ now (buffer .exit) ≡ builder (now (buffer .entry)) (self .kind) (self .used .0) (addMetadata (id .0) «metric_type» (now (strings .entry)) (now (lengths .entry))) .buffer ⌝ }
+        ensures answer { λ r. ⌜ r ≡ addedOf (self .tag) (builder (now (buffer .entry)) (self .tag) (self .used .0) (addMetadata (id .0) «metric_type» (now (strings .entry)) (now (lengths .entry))) .outcome) ⌝ }
+        ensures bytes { λ _. ⌜ now (buffer .exit) ≡ builder (now (buffer .entry)) (self .tag) (self .used .0) (addMetadata (id .0) «metric_type» (now (strings .entry)) (now (lengths .entry))) .buffer ⌝ }
     {
         let at = self.used.0;
         let bad = list_is_bad(strings, lengths);
         let list = list_size(strings, lengths);
         let head = uvarint::uvarint_len(id.0) + 1;
         let size = head + list;
-        match admit(&*buffer, self.kind, at, 6, bad, size) {
+        match admit(&*buffer, self.tag, at, METADATA, bad, size) {
             Gate::Open => {
                 let next = put_metadata(buffer, at, id, metric_type, strings, lengths);
                 self.used.0 = next;

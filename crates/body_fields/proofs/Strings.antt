@@ -7,15 +7,15 @@ use native.Mathlib.Nat.{add-zero}
 use lib.ListN.{length, drop, length-drop}
 use lib.Seq.{length-take-le}
 use Rattle.wal_types.specs.declared.Refusal.{Refusal}
-use Rattle.body_format.specs.Fields.{Field, got, fault, andThen, Text, uvarintAt, textAt, textsAt, textListAt}
-use Rattle.body_format.specs.Laws.Fields.{text-got}
-use Rattle.body_format.specs.Laws.Bounds.{of-got, uvarint-ahead, texts-ahead}
-use Rattle.body_fields.specs.declared.TextRead.the-variants as text
-use Rattle.body_fields.specs.declared.TextListRead.{TextListRead}
-use Rattle.body_fields.specs.declared.TextListRead.the-variants as list
+use Rattle.body_format.specs.Fields.{Field, got, fault, andThen, StringField, uvarintAt, stringAt, stringsAt, stringListAt}
+use Rattle.body_format.specs.Laws.Fields.{string-got}
+use Rattle.body_format.specs.Laws.Bounds.{of-got, uvarint-ahead, strings-ahead}
+use Rattle.body_fields.specs.declared.StringRead.the-variants as text
+use Rattle.body_fields.specs.declared.StringListRead.{StringListRead}
+use Rattle.body_fields.specs.declared.StringListRead.the-variants as list
 use Rattle.body_fields.specs.declared.Place.{Place}
 use Rattle.body_fields.specs.declared.Place.the-variants.{At, Fault}
-use Rattle.body_fields.specs.Readings.{textRead, textListRead}
+use Rattle.body_fields.specs.Readings.{stringRead, stringListRead}
 use Rattle.body_fields.specs.Ends.{endOf}
 use Rattle.body_fields.specs.Tally.{tally}
 
@@ -24,36 +24,36 @@ uvarint-inside s p n q e = of-got _ (uvarintAt s p) n q (uvarint-ahead s p) e .1
 
 -- ---- a string, and two
 
-pub text-whole : (s : List ℕ) (p n q : ℕ) → uvarintAt s p ≡ got n q → n ≤ length s - q → text.Got q n (q + n) ≡ textRead (textAt s p)
-text-whole s p n q e h =
+pub string-whole : (s : List ℕ) (p n q : ℕ) → uvarintAt s p ≡ got n q → n ≤ length s - q → text.Got q n (q + n) ≡ stringRead (stringAt s p)
+string-whole s p n q e h =
     ap (λ (k : ℕ). text.Got q k (q + n)) (sym (length-take-le n (drop q s) (omega (arith, length-drop q s))))
-    ∙ sym (ap textRead (text-got s p n q e h))
+    ∙ sym (ap stringRead (string-got s p n q e h))
 
 module _ (s : List ℕ) (p : ℕ) where
-  pub pair-1 : {why : Refusal} → textAt s p ≡ fault why → Fault why ≡ endOf (textsAt 2 s p)
-  unfolding textsAt
+  pub pair-1 : {why : Refusal} → stringAt s p ≡ fault why → Fault why ≡ endOf (stringsAt 2 s p)
+  unfolding stringsAt
   pair-1 h = rw h
 
-  pub pair-2 : {start size q : ℕ} {why : Refusal} → (t : Text) × (textAt s p ≡ got t q) × (t .start ≡ start) × (length (t .bytes) ≡ size)
-      → textAt s q ≡ fault why → Fault why ≡ endOf (textsAt 2 s p)
-  unfolding textsAt
+  pub pair-2 : {start size q : ℕ} {why : Refusal} → (t : StringField) × (stringAt s p ≡ got t q) × (t .start ≡ start) × (length (t .bytes) ≡ size)
+      → stringAt s q ≡ fault why → Fault why ≡ endOf (stringsAt 2 s p)
+  unfolding stringsAt
   pair-2 (t, h, a, b) i = rw (h, i)
 
-  pub pair-all : {start size q start′ size′ r : ℕ} → (t : Text) × (textAt s p ≡ got t q) × (t .start ≡ start) × (length (t .bytes) ≡ size)
-      → (u : Text) × (textAt s q ≡ got u r) × (u .start ≡ start′) × (length (u .bytes) ≡ size′)
-      → At r ≡ endOf (textsAt 2 s p)
-  unfolding textsAt
+  pub pair-all : {start size q start′ size′ r : ℕ} → (t : StringField) × (stringAt s p ≡ got t q) × (t .start ≡ start) × (length (t .bytes) ≡ size)
+      → (u : StringField) × (stringAt s q ≡ got u r) × (u .start ≡ start′) × (length (u .bytes) ≡ size′)
+      → At r ≡ endOf (stringsAt 2 s p)
+  unfolding stringsAt
   pair-all (t, h, a, b) (u, i, c, d) = rw (h, i)
 
 -- ---- pairs of strings
 
 -- a string, and the place after it
-abbrev after : Field Text → ℕ
+abbrev after : Field StringField → ℕ
 after (got t q) = q
 after (fault why) = 0
 
-abbrev afterPair : List ℕ → ℕ → ℕ → ℕ → Place → TextListRead
-afterPair s first k c (At q) = tally first (c + 2) (textsAt k s q)
+abbrev afterPair : List ℕ → ℕ → ℕ → ℕ → Place → StringListRead
+afterPair s first k c (At q) = tally first (c + 2) (stringsAt k s q)
 afterPair s first k c (Fault why) = list.Fault why
 
 two-more : (first c : ℕ) (a b : List ℕ) (f : Field (List (List ℕ)))
@@ -61,40 +61,40 @@ two-more : (first c : ℕ) (a b : List ℕ) (f : Field (List (List ℕ)))
 two-more first c a b (got ts r) = ap (λ (n : ℕ). list.Got n first r) (omega arith)
 two-more first c a b (fault why) = refl
 
-two-steps : (s : List ℕ) (first k p c : ℕ) (f g : Field Text) → textAt s p ≡ f → textAt s (after f) ≡ g
-    → tally first c (textsAt (suc (suc k)) s p) ≡ afterPair s first k c (endOf (textsAt 2 s p))
-unfolding textsAt
+two-steps : (s : List ℕ) (first k p c : ℕ) (f g : Field StringField) → stringAt s p ≡ f → stringAt s (after f) ≡ g
+    → tally first c (stringsAt (suc (suc k)) s p) ≡ afterPair s first k c (endOf (stringsAt 2 s p))
+unfolding stringsAt
 two-steps s first k p c (fault why) g e h = rw e
 two-steps s first k p c (got t q) (fault why) e h = rw (e, h)
-two-steps s first k p c (got t q) (got u r) e h = rw (e, h) (two-more first c (t .bytes) (u .bytes) (textsAt k s r))
+two-steps s first k p c (got t q) (got u r) e h = rw (e, h) (two-more first c (t .bytes) (u .bytes) (stringsAt k s r))
 
 pair-step : (s : List ℕ) (first k p c : ℕ) → 0 < k
-    → tally first c (textsAt (2 * k) s p) ≡ afterPair s first (2 * (k - 1)) c (endOf (textsAt 2 s p))
+    → tally first c (stringsAt (2 * k) s p) ≡ afterPair s first (2 * (k - 1)) c (endOf (stringsAt 2 s p))
 pair-step s first k p c h =
     let twice : 2 * k ≡ suc (suc (2 * (k - 1))) = omega arith in
-    rw twice (two-steps s first (2 * (k - 1)) p c (textAt s p) _ refl refl)
+    rw twice (two-steps s first (2 * (k - 1)) p c (stringAt s p) _ refl refl)
 
 -- `left` of `pairs` pairs are to be read from `at` on, behind `count` strings
 pub record Pairs (s : List ℕ) (first pairs at count left : ℕ) : Type 0 where
   pub inside : at ≤ length s
   pub few : count ≤ at
-  pub same : tally first count (textsAt (2 * left) s at) ≡ tally first 0 (textsAt (2 * pairs) s first)
+  pub same : tally first count (stringsAt (2 * left) s at) ≡ tally first 0 (stringsAt (2 * pairs) s first)
 
 abbrev pub PairTold : List ℕ → ℕ → ℕ → ℕ → ℕ → ℕ → Place → Type 0
 PairTold s first pairs at count left (At q) = Pairs s first pairs q (count + 2) (left - 1) × (q ≤ length s) × (count + 2 ≤ q)
-PairTold s first pairs at count left (Fault why) = list.Fault why ≡ tally first 0 (textsAt (2 * pairs) s first)
+PairTold s first pairs at count left (Fault why) = list.Fault why ≡ tally first 0 (stringsAt (2 * pairs) s first)
 
 pub pair-turn : (s : List ℕ) (first pairs at count left : ℕ) → Pairs s first pairs at count left → 0 < left
-    → (r : Place) → r ≡ endOf (textsAt 2 s at) → PairTold s first pairs at count left r
-pair-turn s first pairs at count left i h r e = rw e (go (textsAt 2 s at) refl)
+    → (r : Place) → r ≡ endOf (stringsAt 2 s at) → PairTold s first pairs at count left r
+pair-turn s first pairs at count left i h r e = rw e (go (stringsAt 2 s at) refl)
   where
-    step : tally first 0 (textsAt (2 * pairs) s first) ≡ afterPair s first (2 * (left - 1)) count (endOf (textsAt 2 s at))
+    step : tally first 0 (stringsAt (2 * pairs) s first) ≡ afterPair s first (2 * (left - 1)) count (endOf (stringsAt 2 s at))
     step = sym (i .same) ∙ pair-step s first left at count h
 
-    go : (f : Field (List (List ℕ))) → textsAt 2 s at ≡ f → PairTold s first pairs at count left (endOf f)
+    go : (f : Field (List (List ℕ))) → stringsAt 2 s at ≡ f → PairTold s first pairs at count left (endOf f)
     go (got ts q) g =
-        let b = of-got _ (textsAt 2 s at) ts q (texts-ahead s 2 at (i .inside)) g in
-        let t : tally first (count + 2) (textsAt (2 * (left - 1)) s q) ≡ tally first 0 (textsAt (2 * pairs) s first)
+        let b = of-got _ (stringsAt 2 s at) ts q (strings-ahead s 2 at (i .inside)) g in
+        let t : tally first (count + 2) (stringsAt (2 * (left - 1)) s q) ≡ tally first 0 (stringsAt (2 * pairs) s first)
         = sym (step ∙ ap (λ (f : Field (List (List ℕ))). afterPair s first (2 * (left - 1)) count (endOf f)) g) in
         let few : count + 2 ≤ q = omega (arith, i .few) in
         (record { inside = b .1; few = few; same = t }, b .1, few)
@@ -102,19 +102,19 @@ pair-turn s first pairs at count left i h r e = rw e (go (textsAt 2 s at) refl)
 
 -- none are left
 pub pairs-done : (s : List ℕ) (first pairs at count : ℕ) → Pairs s first pairs at count 0
-    → list.Got count first at ≡ tally first 0 (textsAt (2 * pairs) s first)
-unfolding textsAt
+    → list.Got count first at ≡ tally first 0 (stringsAt (2 * pairs) s first)
+unfolding stringsAt
 pairs-done s first pairs at count i = ap (λ (n : ℕ). list.Got n first at) (sym (add-zero count)) ∙ i .same
 
 -- a list of strings
-pub list-1 : (s : List ℕ) (p : ℕ) {why : Refusal} → uvarintAt s p ≡ fault why → list.Fault why ≡ textListRead (textListAt s p)
-unfolding textListAt
+pub list-1 : (s : List ℕ) (p : ℕ) {why : Refusal} → uvarintAt s p ≡ fault why → list.Fault why ≡ stringListRead (stringListAt s p)
+unfolding stringListAt
 list-1 s p h = rw h
 
-pub list-all : (s : List ℕ) (p : ℕ) {n q : ℕ} → uvarintAt s p ≡ got n q → tally q 0 (textsAt (2 * n) s q) ≡ textListRead (textListAt s p)
-unfolding textListAt
-list-all s p {n} {q} h = rw h (go (textsAt (2 * n) s q))
+pub list-all : (s : List ℕ) (p : ℕ) {n q : ℕ} → uvarintAt s p ≡ got n q → tally q 0 (stringsAt (2 * n) s q) ≡ stringListRead (stringListAt s p)
+unfolding stringListAt
+list-all s p {n} {q} h = rw h (go (stringsAt (2 * n) s q))
   where
-    go : (f : Field (List (List ℕ))) → tally q 0 f ≡ textListRead (andThen f (λ ts r. got (record { first = q; strings = ts }) r))
+    go : (f : Field (List (List ℕ))) → tally q 0 f ≡ stringListRead (andThen f (λ ts r. got (record { first = q; strings = ts }) r))
     go (got ts r) = ap (λ (m : ℕ). list.Got m q r) (omega arith)
     go (fault why) = refl

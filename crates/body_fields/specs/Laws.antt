@@ -16,17 +16,17 @@ use Rattle.varint.specs.declared.VarintRead.the-variants as v
 use Rattle.uvarint.specs.Uvarint.{readUvarint, readGroups}
 use Rattle.varint.specs.Varint.{readVarint}
 use Rattle.varint.specs.VarintLaws.{taken-varint}
-use Rattle.body_format.specs.Fields.{Field, got, fault, Text, Texts, uvarintAt, varintOf, varintAt}
+use Rattle.body_format.specs.Fields.{Field, got, fault, StringField, StringList, uvarintAt, varintOf, varintAt}
 use Rattle.body_format.specs.Laws.Fields.{uvarint-got}
 use Rattle.body_fields.specs.declared.NumberRead.{NumberRead}
 use Rattle.body_fields.specs.declared.NumberRead.the-variants as number
 use Rattle.body_fields.specs.declared.SignedRead.{SignedRead}
 use Rattle.body_fields.specs.declared.SignedRead.the-variants as signed
-use Rattle.body_fields.specs.declared.TextRead.{TextRead}
-use Rattle.body_fields.specs.declared.TextRead.the-variants as text
-use Rattle.body_fields.specs.declared.TextListRead.{TextListRead}
-use Rattle.body_fields.specs.declared.TextListRead.the-variants as list
-use Rattle.body_fields.specs.Readings.{numberRead, signedRead, textRead, textListRead}
+use Rattle.body_fields.specs.declared.StringRead.{StringRead}
+use Rattle.body_fields.specs.declared.StringRead.the-variants as text
+use Rattle.body_fields.specs.declared.StringListRead.{StringListRead}
+use Rattle.body_fields.specs.declared.StringListRead.the-variants as list
+use Rattle.body_fields.specs.Readings.{numberRead, signedRead, stringRead, stringListRead}
 
 -- two answers of different cases are not one
 pub never : {A : Type 0} → _≡_ {A = ℕ} 0 1 → A
@@ -50,22 +50,22 @@ pub signed-fault : (f : Field ℤ) (r : SignedRead) {why : Refusal}
 signed-fault (got m p) r e g = never cc
 signed-fault (fault w) r e g = cc
 
-pub text-told : (f : Field Text) (r : TextRead) {start size q : ℕ} → r ≡ textRead f → r ≡ text.Got start size q
-    → (t : Text) × (f ≡ got t q) × (t .start ≡ start) × (length (t .bytes) ≡ size)
-text-told (got t p) r e g = (t, cc, cc, cc)
-text-told (fault w) r e g = never cc
+pub string-told : (f : Field StringField) (r : StringRead) {start size q : ℕ} → r ≡ stringRead f → r ≡ text.Got start size q
+    → (t : StringField) × (f ≡ got t q) × (t .start ≡ start) × (length (t .bytes) ≡ size)
+string-told (got t p) r e g = (t, cc, cc, cc)
+string-told (fault w) r e g = never cc
 
-pub text-faulty : (f : Field Text) (r : TextRead) {why : Refusal} → r ≡ textRead f → r ≡ text.Fault why → f ≡ fault why
-text-faulty (got m p) r e g = never cc
-text-faulty (fault w) r e g = cc
+pub string-faulty : (f : Field StringField) (r : StringRead) {why : Refusal} → r ≡ stringRead f → r ≡ text.Fault why → f ≡ fault why
+string-faulty (got m p) r e g = never cc
+string-faulty (fault w) r e g = cc
 
-pub list-got : (f : Field Texts) (r : TextListRead) {n first q : ℕ} → r ≡ textListRead f → r ≡ list.Got n first q
-    → (l : Texts) × (f ≡ got l q) × (length (l .strings) ≡ n) × (l .first ≡ first)
+pub list-got : (f : Field StringList) (r : StringListRead) {n first q : ℕ} → r ≡ stringListRead f → r ≡ list.Got n first q
+    → (l : StringList) × (f ≡ got l q) × (length (l .strings) ≡ n) × (l .first ≡ first)
 list-got (got l p) r e g = (l, cc, cc, cc)
 list-got (fault w) r e g = never cc
 
-pub list-fault : (f : Field Texts) (r : TextListRead) {why : Refusal}
-    → r ≡ textListRead f → r ≡ list.Fault why → f ≡ fault why
+pub list-fault : (f : Field StringList) (r : StringListRead) {why : Refusal}
+    → r ≡ stringListRead f → r ≡ list.Fault why → f ≡ fault why
 list-fault (got m p) r e g = never cc
 list-fault (fault w) r e g = cc
 

@@ -5,15 +5,15 @@
 use lib.IntN.{ℤ}
 use lib.ListN.{length}
 use Prim.Native.Nat.{ℕ}
-use Rattle.body_format.specs.Fields.{Field, got, fault, Text, Texts}
+use Rattle.body_format.specs.Fields.{Field, got, fault, StringField, StringList}
 use Rattle.body_fields.specs.declared.NumberRead.{NumberRead}
 use Rattle.body_fields.specs.declared.NumberRead.the-variants as number
 use Rattle.body_fields.specs.declared.SignedRead.{SignedRead}
 use Rattle.body_fields.specs.declared.SignedRead.the-variants as signed
-use Rattle.body_fields.specs.declared.TextRead.{TextRead}
-use Rattle.body_fields.specs.declared.TextRead.the-variants as text
-use Rattle.body_fields.specs.declared.TextListRead.{TextListRead}
-use Rattle.body_fields.specs.declared.TextListRead.the-variants as list
+use Rattle.body_fields.specs.declared.StringRead.{StringRead}
+use Rattle.body_fields.specs.declared.StringRead.the-variants as text
+use Rattle.body_fields.specs.declared.StringListRead.{StringListRead}
+use Rattle.body_fields.specs.declared.StringListRead.the-variants as list
 
 abbrev pub numberRead : Field ℕ → NumberRead
 numberRead (got n next) = number.Got n next
@@ -23,10 +23,10 @@ abbrev pub signedRead : Field ℤ → SignedRead
 signedRead (got x next) = signed.Got x next
 signedRead (fault why) = signed.Fault why
 
-abbrev pub textRead : Field Text → TextRead
-textRead (got t next) = text.Got (t .start) (length (t .bytes)) next
-textRead (fault why) = text.Fault why
+abbrev pub stringRead : Field StringField → StringRead
+stringRead (got t next) = text.Got (t .start) (length (t .bytes)) next
+stringRead (fault why) = text.Fault why
 
-abbrev pub textListRead : Field Texts → TextListRead
-textListRead (got l next) = list.Got (length (l .strings)) (l .first) next
-textListRead (fault why) = list.Fault why
+abbrev pub stringListRead : Field StringList → StringListRead
+stringListRead (got l next) = list.Got (length (l .strings)) (l .first) next
+stringListRead (fault why) = list.Fault why

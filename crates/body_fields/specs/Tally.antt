@@ -4,10 +4,10 @@ use mathlib.Core.List.{List}
 use Prim.Native.Nat.{ℕ, _+_}
 use lib.ListN.{length}
 use Rattle.body_format.specs.Fields.{Field, got, fault}
-use Rattle.body_fields.specs.declared.TextListRead.{TextListRead}
-use Rattle.body_fields.specs.declared.TextListRead.the-variants as list
+use Rattle.body_fields.specs.declared.StringListRead.{StringListRead}
+use Rattle.body_fields.specs.declared.StringListRead.the-variants as list
 
 -- strings in a row, behind `count` others of a list whose first begins at `first`
-abbrev pub tally : ℕ → ℕ → Field (List (List ℕ)) → TextListRead
+abbrev pub tally : ℕ → ℕ → Field (List (List ℕ)) → StringListRead
 tally first count (got ts next) = list.Got (count + length ts) first next
 tally first count (fault why) = list.Fault why

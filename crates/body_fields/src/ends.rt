@@ -3,15 +3,15 @@
 use crate::NumberRead;
 use crate::Place;
 use crate::SignedRead;
-use crate::TextListRead;
+use crate::StringListRead;
 use crate::byte_at;
 use crate::fixed_at;
-use crate::text_list_at;
+use crate::string_list_at;
 use crate::uvarint_at;
 use crate::varint_at;
 ghost use mathlib.Core.Path.{_≡_};
 ghost use Prim.Native.Nat.{ℕ};
-ghost use Rattle.body_format.specs.Fields.{Field, byteAt, fixedAt, uvarintAt, varintAt, textListAt};
+ghost use Rattle.body_format.specs.Fields.{Field, byteAt, fixedAt, uvarintAt, varintAt, stringListAt};
 ghost use Rattle.body_fields.specs.Readings.{numberRead};
 ghost use Rattle.body_fields.specs.Ends.{endOf, onward};
 
@@ -70,16 +70,16 @@ pub fn varint_end(body: &[u8], from: Place) -> Place
 
 // A count n, and then 2n strings.
 pub fn list_end(body: &[u8], from: Place) -> Place
-    ensures { λ r. ⌜ r ≡ onward from (λ (at : ℕ). endOf (textListAt (now (body .entry)) at)) ⌝ }
+    ensures { λ r. ⌜ r ≡ onward from (λ (at : ℕ). endOf (stringListAt (now (body .entry)) at)) ⌝ }
 {
     match from {
-        Place::At(at) => match text_list_at(body, at) {
-            TextListRead::Got {
+        Place::At(at) => match string_list_at(body, at) {
+            StringListRead::Got {
                 count: _,
                 first: _,
                 next,
             } => Place::At(next),
-            TextListRead::Fault(why) => Place::Fault(why),
+            StringListRead::Fault(why) => Place::Fault(why),
         },
         Place::Fault(why) => Place::Fault(why),
     }

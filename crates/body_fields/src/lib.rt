@@ -9,8 +9,8 @@ use wal_types::Refusal;
 ghost use mathlib.Core.Path.{_≡_};
 ghost use Prim.Native.Nat.{_*_, _≤_};
 ghost use lib.ListN.{length};
-ghost use Rattle.body_format.specs.Fields.{byteAt, fixedAt, uvarintAt, varintAt, textAt, textsAt, textListAt};
-ghost use Rattle.body_fields.specs.Readings.{numberRead, signedRead, textRead, textListRead};
+ghost use Rattle.body_format.specs.Fields.{byteAt, fixedAt, uvarintAt, varintAt, stringAt, stringsAt, stringListAt};
+ghost use Rattle.body_fields.specs.Readings.{numberRead, signedRead, stringRead, stringListRead};
 ghost use Rattle.body_fields.specs.Ends.{endOf};
 ghost use Rattle.body_fields.specs.Tally.{tally};
 
@@ -106,7 +106,7 @@ pub fn varint_at(body: &[u8], at: usize) -> SignedRead
 // ---- strings
 
 // Where a string's bytes start, how many they are, and the place after them.
-pub enum TextRead {
+pub enum StringRead {
     Got {
         start: usize,
         length: usize,
@@ -116,7 +116,7 @@ pub enum TextRead {
 }
 
 // How many strings a list has, where the first begins, and the place after the last.
-pub enum TextListRead {
+pub enum StringListRead {
     Got {
         count: usize,
         first: usize,
@@ -127,53 +127,53 @@ pub enum TextListRead {
 
 // A string with its length is one field. The length is compared with what remains, never added
 // before that.
-pub fn text_at(body: &[u8], at: usize) -> TextRead
-    ensures { λ r. ⌜ r ≡ textRead (textAt (now (body .entry)) at) ⌝ }
+pub fn string_field_at(body: &[u8], at: usize) -> StringRead
+    ensures { λ r. ⌜ r ≡ stringRead (stringAt (now (body .entry)) at) ⌝ }
 {
     match uvarint_at(body, at) {
         NumberRead::Got { value, next } => {
             let left = (body.len() - next) as u64;
             if left < value {
-                return TextRead::Fault(Refusal::Short(Offset(at)));
+                return StringRead::Fault(Refusal::Short(Offset(at)));
             }
             let length = value as usize;
             let after = next + length;
-            TextRead::Got {
+            StringRead::Got {
                 start: next,
                 length,
                 next: after,
             }
         }
-        NumberRead::Fault(why) => TextRead::Fault(why),
+        NumberRead::Fault(why) => StringRead::Fault(why),
     }
 }
 
 // The place after two strings.
 fn pair_at(body: &[u8], at: usize) -> Place
-    ensures { λ r. ⌜ r ≡ endOf (textsAt 2 (now (body .entry)) at) ⌝ }
+    ensures { λ r. ⌜ r ≡ endOf (stringsAt 2 (now (body .entry)) at) ⌝ }
 {
-    match text_at(body, at) {
-        TextRead::Got {
+    match string_field_at(body, at) {
+        StringRead::Got {
             start: _,
             length: _,
             next,
-        } => match text_at(body, next) {
-            TextRead::Got {
+        } => match string_field_at(body, next) {
+            StringRead::Got {
                 start: _,
                 length: _,
                 next,
             } => Place::At(next),
-            TextRead::Fault(why) => Place::Fault(why),
+            StringRead::Fault(why) => Place::Fault(why),
         },
-        TextRead::Fault(why) => Place::Fault(why),
+        StringRead::Fault(why) => Place::Fault(why),
     }
 }
 
 // So many pairs of strings. The strings are counted as they are found: twice the number of pairs
 // need not fit 64 bits.
-fn pairs_at(body: &[u8], first: usize, pairs: u64) -> TextListRead
+fn pairs_at(body: &[u8], first: usize, pairs: u64) -> StringListRead
     requires { ⌜ first ≤ length (now body) ⌝ }
-    ensures { λ r. ⌜ r ≡ tally first 0 (textsAt (2 * pairs) (now (body .entry)) first) ⌝ }
+    ensures { λ r. ⌜ r ≡ tally first 0 (stringsAt (2 * pairs) (now (body .entry)) first) ⌝ }
 {
     let mut at = first;
     let mut count: usize = 0;
@@ -184,13 +184,13 @@ fn pairs_at(body: &[u8], first: usize, pairs: u64) -> TextListRead
                 at = next;
             }
             Place::Fault(why) => {
-                return TextListRead::Fault(why);
+                return StringListRead::Fault(why);
             }
         }
         count += 2;
         left -= 1;
     }
-    TextListRead::Got {
+    StringListRead::Got {
         count,
         first,
         next: at,
@@ -198,11 +198,11 @@ fn pairs_at(body: &[u8], first: usize, pairs: u64) -> TextListRead
 }
 
 // A count n, and then 2n strings.
-pub fn text_list_at(body: &[u8], at: usize) -> TextListRead
-    ensures { λ r. ⌜ r ≡ textListRead (textListAt (now (body .entry)) at) ⌝ }
+pub fn string_list_at(body: &[u8], at: usize) -> StringListRead
+    ensures { λ r. ⌜ r ≡ stringListRead (stringListAt (now (body .entry)) at) ⌝ }
 {
     match uvarint_at(body, at) {
         NumberRead::Got { value, next } => pairs_at(body, next, value),
-        NumberRead::Fault(why) => TextListRead::Fault(why),
+        NumberRead::Fault(why) => StringListRead::Fault(why),
     }
 }

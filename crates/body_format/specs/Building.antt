@@ -14,21 +14,21 @@ use Rattle.wal_types.specs.Deltas.{minus, toBits}
 use Rattle.uvarint.specs.Uvarint.{uvarint}
 use Rattle.varint.specs.Varint.{varint}
 use Rattle.big_endian.specs.Fixed.{be8, readBe8}
-use Rattle.body_format.specs.Entries.{typeByte, Known, known, unknown, kindOf, rowsKnown, Entry, seriesEntry, sampleEntry, tombstoneEntry, exemplarEntry, metadataEntry, kindFor}
+use Rattle.body_format.specs.Entries.{typeByte, Known, known, unknown, bodyTypeOf, rowsKnown, Entry, seriesEntry, sampleEntry, tombstoneEntry, exemplarEntry, metadataEntry, bodyTypeFor}
 
 -- ---- the bytes of an entry
 
 -- a string: its length (uvarint), and its bytes
-unfoldable pub textBytes : List ℕ → List ℕ
-textBytes t = uvarint (length t) ++ t
+unfoldable pub stringBytes : List ℕ → List ℕ
+stringBytes t = uvarint (length t) ++ t
 
-unfoldable pub textsBytes : List (List ℕ) → List ℕ
-textsBytes [] = []
-textsBytes (t ∷ ts) = textBytes t ++ textsBytes ts
+unfoldable pub stringsBytes : List (List ℕ) → List ℕ
+stringsBytes [] = []
+stringsBytes (t ∷ ts) = stringBytes t ++ stringsBytes ts
 
 -- a list of strings: half their number (uvarint), and the strings
-unfoldable pub textListBytes : List (List ℕ) → List ℕ
-textListBytes ts = uvarint (length ts / 2) ++ textsBytes ts
+unfoldable pub stringListBytes : List (List ℕ) → List ℕ
+stringListBytes ts = uvarint (length ts / 2) ++ stringsBytes ts
 
 -- a delta as it is written in a row
 abbrev pub deltaBytes : ℕ → List ℕ
@@ -43,18 +43,18 @@ rowBytes b used id time v =
 
 -- the bytes that an entry puts down behind `used` bytes of the body that buffer b holds
 unfoldable pub entryBytes : List ℕ → ℕ → Entry → List ℕ
-entryBytes b used (seriesEntry id ts) = be8 id ++ textListBytes ts
+entryBytes b used (seriesEntry id ts) = be8 id ++ stringListBytes ts
 entryBytes b used (sampleEntry id time v) = rowBytes b used id (toBits time) v
 entryBytes b used (tombstoneEntry id min max) = be8 id ++ (varint min ++ varint max)
-entryBytes b used (exemplarEntry id time v ts) = rowBytes b used id (toBits time) v ++ textListBytes ts
-entryBytes b used (metadataEntry id metric ts) = uvarint id ++ (metric ∷ textListBytes ts)
+entryBytes b used (exemplarEntry id time v ts) = rowBytes b used id (toBits time) v ++ stringListBytes ts
+entryBytes b used (metadataEntry id metric ts) = uvarint id ++ (metric ∷ stringListBytes ts)
 
 -- ---- strings as they are lent: one slice of bytes, and one of lengths
 
 -- the strings: each takes its length from the front of what is left
-unfoldable pub cutTexts : List ℕ → List ℕ → List (List ℕ)
-cutTexts bytes [] = []
-cutTexts bytes (n ∷ lengths) = take n bytes ∷ cutTexts (drop n bytes) lengths
+unfoldable pub cutStrings : List ℕ → List ℕ → List (List ℕ)
+cutStrings bytes [] = []
+cutStrings bytes (n ∷ lengths) = take n bytes ∷ cutStrings (drop n bytes) lengths
 
 unfoldable pub total : List ℕ → ℕ
 total [] = 0
@@ -77,7 +77,7 @@ startKnown (known k) b = cond (eqb (length b) 0) (refused (NoRoom (offset 0))) (
 startKnown unknown b = refused UnknownType
 
 unfoldable pub start : List ℕ → ℕ → Outcome
-start b t = startKnown (kindOf t) b
+start b t = startKnown (bodyTypeOf t) b
 
 -- the buffer afterwards: the type byte stands first
 abbrev pub startBytes : Outcome → List ℕ → ℕ → List ℕ
@@ -88,13 +88,13 @@ startBytes (refused why) b t = b
 -- byte is not the type.
 unfoldable pub badState : List ℕ → ℕ → ℕ → Bool
 badState b t u =
-    eqb u 0 || (ltb (length b) u || ((rowsKnown (kindOf t) && (leb 2 u && leb u 16)) || not (eqb (getD b 0 0) t)))
+    eqb u 0 || (ltb (length b) u || ((rowsKnown (bodyTypeOf t) && (leb 2 u && leb u 16)) || not (eqb (getD b 0 0) t)))
 
 -- adding an entry to the state (t, u) of a body in buffer b, `bad` if its list of strings is: BadPlace, WrongKind, BadList, TooLong, NoRoom
 unfoldable pub add : List ℕ → ℕ → ℕ → Entry → Bool → Outcome
 add b t u e bad =
     cond (badState b t u) (refused BadPlace)
-    (cond (not (eqb t (typeByte (kindFor e)))) (refused WrongKind)
+    (cond (not (eqb t (typeByte (bodyTypeFor e)))) (refused WrongKind)
     (cond bad (refused BadList)
     (cond (ltb recordLimit (u + length (entryBytes b u e))) (refused (TooLong (offset u)))
     (cond (ltb (length b) (u + length (entryBytes b u e))) (refused (NoRoom (offset u)))

@@ -14,7 +14,7 @@ use Rattle.body_format.specs.declared.StringAnswer.{StringAnswer}
 use Rattle.body_format.specs.declared.StringAnswer.the-variants.{Found as StringFound}
 use Rattle.body_format.specs.Entries.{Entry, seriesEntry, sampleEntry, tombstoneEntry, exemplarEntry, metadataEntry}
 use Rattle.body_format.specs.Reading.{view, checkBody, readEntry, readString}
-use Rattle.body_format.specs.Building.{cutTexts, badList, Outcome, used, refused, start, startBytes, add, addBytes}
+use Rattle.body_format.specs.Building.{cutStrings, badList, Outcome, used, refused, start, startBytes, add, addBytes}
 
 -- ---- building
 
@@ -28,11 +28,11 @@ pub data Addition : Type 0 where
 
 -- the entry that it is to add
 abbrev pub entryFor : Addition → Entry
-entryFor (addSeries id bytes lengths) = seriesEntry id (cutTexts bytes lengths)
+entryFor (addSeries id bytes lengths) = seriesEntry id (cutStrings bytes lengths)
 entryFor (addSample id time v) = sampleEntry id time v
 entryFor (addTombstone id min max) = tombstoneEntry id min max
-entryFor (addExemplar id time v bytes lengths) = exemplarEntry id time v (cutTexts bytes lengths)
-entryFor (addMetadata id metric bytes lengths) = metadataEntry id metric (cutTexts bytes lengths)
+entryFor (addExemplar id time v bytes lengths) = exemplarEntry id time v (cutStrings bytes lengths)
+entryFor (addMetadata id metric bytes lengths) = metadataEntry id metric (cutStrings bytes lengths)
 
 -- whether its list of strings is a BadList
 abbrev pub listIsBad : Addition → Bool

@@ -9,7 +9,7 @@ use lib.ListN.{length, take, drop}
 use Rattle.wal_types.specs.declared.Refusal.{Refusal}
 use Rattle.body_format.specs.declared.CheckAnswer.the-variants.{Entries}
 use Rattle.body_format.specs.Fields.{got}
-use Rattle.body_format.specs.Entries.{Kind, known, kindOf, Entry, entries}
+use Rattle.body_format.specs.Entries.{BodyType, known, bodyTypeOf, Entry, entries}
 use Rattle.body_format.specs.Reading.{checkBody, readEntry, readString}
 use Rattle.body_format.specs.Building.{used, refused, start}
 use Rattle.body_format.specs.Calls.{Addition, addSeries, addSample, addTombstone, addExemplar, addMetadata, starter, builder, finalBuffer, finalUsed, added, BodyCalls, Walks}
@@ -54,8 +54,8 @@ pub record Demand2 (C : BodyCalls) : Type 0 where
   pub reads : (s : List ℕ) (p : ℕ) → C .entry s p ≡ readEntry s p
   pub strings : (s : List ℕ) (p : ℕ) → C .string s p ≡ readString s p
   -- reading an entry at each place in turn walks exactly that list
-  pub walks : (b : ℕ) (s : List ℕ) (k : Kind) (es : List Entry) (p : ℕ)
-      → kindOf b ≡ known k
+  pub walks : (b : ℕ) (s : List ℕ) (k : BodyType) (es : List Entry) (p : ℕ)
+      → bodyTypeOf b ≡ known k
       → entries k (b ∷ s) ≡ got es p
       → Walks (C .entry) (C .string) (b ∷ s) 1 es
   -- every body that is built reads back as the entries put in, by the check and by a walk: for every list of additions to a started body, refused ones

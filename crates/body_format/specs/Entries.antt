@@ -8,15 +8,15 @@ use lib.ListN.{length, drop}
 use lib.Dec.{eqb}
 use Rattle.wal_types.specs.Deltas.{plus, fromBits}
 use Rattle.big_endian.specs.Fixed.{readBe8}
-use Rattle.body_format.specs.Fields.{Field, got, andThen, byteAt, fixedAt, uvarintAt, varintAt, textListAt}
+use Rattle.body_format.specs.Fields.{Field, got, andThen, byteAt, fixedAt, uvarintAt, varintAt, stringListAt}
 
 -- ---- types
 
-pub data Kind : Type 0 where
-  series samples tombstones exemplars metadata : Kind
+pub data BodyType : Type 0 where
+  series samples tombstones exemplars metadata : BodyType
 
 -- the type byte of each
-abbrev pub typeByte : Kind → ℕ
+abbrev pub typeByte : BodyType → ℕ
 typeByte series = 1
 typeByte samples = 2
 typeByte tombstones = 3
@@ -25,19 +25,19 @@ typeByte metadata = 6
 
 -- the type that a byte stands for, where it is one that is known
 pub data Known : Type 0 where
-  known : Kind → Known
+  known : BodyType → Known
   unknown : Known
 
-unfoldable pub kindOf : ℕ → Known
-kindOf b =
-    cond (eqb b 1) (known series)
-    (cond (eqb b 2) (known samples)
-    (cond (eqb b 3) (known tombstones)
-    (cond (eqb b 4) (known exemplars)
-    (cond (eqb b 6) (known metadata) unknown))))
+unfoldable pub bodyTypeOf : ℕ → Known
+bodyTypeOf b =
+    cond (eqb b (typeByte series)) (known series)
+    (cond (eqb b (typeByte samples)) (known samples)
+    (cond (eqb b (typeByte tombstones)) (known tombstones)
+    (cond (eqb b (typeByte exemplars)) (known exemplars)
+    (cond (eqb b (typeByte metadata)) (known metadata) unknown))))
 
 -- samples and exemplars have rows, behind a first id and a first timestamp
-abbrev pub hasRows : Kind → Bool
+abbrev pub hasRows : BodyType → Bool
 hasRows series = false
 hasRows samples = true
 hasRows tombstones = false
@@ -60,12 +60,12 @@ pub data Entry : Type 0 where
   metadataEntry : ℕ → ℕ → List (List ℕ) → Entry
 
 -- the type of the bodies that an entry belongs in
-abbrev pub kindFor : Entry → Kind
-kindFor (seriesEntry id ts) = series
-kindFor (sampleEntry id time bits) = samples
-kindFor (tombstoneEntry id min max) = tombstones
-kindFor (exemplarEntry id time bits ts) = exemplars
-kindFor (metadataEntry id metric ts) = metadata
+abbrev pub bodyTypeFor : Entry → BodyType
+bodyTypeFor (seriesEntry id ts) = series
+bodyTypeFor (sampleEntry id time bits) = samples
+bodyTypeFor (tombstoneEntry id min max) = tombstones
+bodyTypeFor (exemplarEntry id time bits ts) = exemplars
+bodyTypeFor (metadataEntry id metric ts) = metadata
 
 -- an entry as it stands in a body, with the place where its strings begin; where it has none, that is the place after it
 pub record Placed : Type 0 where
@@ -94,7 +94,7 @@ rowAt s p =
 unfoldable pub seriesAt : List ℕ → ℕ → Field Placed
 seriesAt s p =
     andThen (fixedAt s p) (λ id q.
-    andThen (textListAt s q) (λ l next.
+    andThen (stringListAt s q) (λ l next.
     got (record { entry = seriesEntry id (l .strings); first = l .first }) next))
 
 -- 2: a row
@@ -113,7 +113,7 @@ tombstoneAt s p =
 unfoldable pub exemplarAt : List ℕ → ℕ → Field Placed
 exemplarAt s p =
     andThen (rowAt s p) (λ r q.
-    andThen (textListAt s q) (λ l next.
+    andThen (stringListAt s q) (λ l next.
     got (record { entry = exemplarEntry (r .id) (r .time) (r .bits) (l .strings); first = l .first }) next))
 
 -- 6: id (uvarint), metric type (1), field count (uvarint), then name and text strings
@@ -121,10 +121,10 @@ unfoldable pub metadataAt : List ℕ → ℕ → Field Placed
 metadataAt s p =
     andThen (uvarintAt s p) (λ id q.
     andThen (byteAt s q) (λ metric r.
-    andThen (textListAt s r) (λ l next.
+    andThen (stringListAt s r) (λ l next.
     got (record { entry = metadataEntry id metric (l .strings); first = l .first }) next)))
 
-abbrev pub entryAt : Kind → List ℕ → ℕ → Field Placed
+abbrev pub entryAt : BodyType → List ℕ → ℕ → Field Placed
 entryAt series s p = seriesAt s p
 entryAt samples s p = sampleAt s p
 entryAt tombstones s p = tombstoneAt s p
@@ -134,7 +134,7 @@ entryAt metadata s p = metadataAt s p
 -- ---- the list of entries
 
 -- the entries from place p to the end of the body, at most n of them
-unfoldable pub entriesFrom : ℕ → Kind → List ℕ → ℕ → Field (List Entry)
+unfoldable pub entriesFrom : ℕ → BodyType → List ℕ → ℕ → Field (List Entry)
 entriesFrom zero k s p = got [] p
 entriesFrom (suc n) k s p =
     cond (eqb p (length s)) (got [] p)
@@ -147,6 +147,6 @@ firstAt true s =
     cond (eqb (length s) 1) (got 1 1)
     (andThen (fixedAt s 1) (λ id q. andThen (fixedAt s q) (λ time r. got r r)))
 
--- the entries of a body of kind k, or its first fault from the left. Every entry has a byte, so there are no more than the body has bytes.
-unfoldable pub entries : Kind → List ℕ → Field (List Entry)
+-- the entries of a body of tag k, or its first fault from the left. Every entry has a byte, so there are no more than the body has bytes.
+unfoldable pub entries : BodyType → List ℕ → Field (List Entry)
 entries k s = andThen (firstAt (hasRows k) s) (λ first p. entriesFrom (length s) k s first)

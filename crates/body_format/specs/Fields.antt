@@ -57,28 +57,28 @@ unfoldable pub varintAt : List ℕ → ℕ → Field ℤ
 varintAt s p = varintOf p (readVarint (drop p s))
 
 -- a string: where its bytes start, and the bytes
-pub record Text : Type 0 where
+pub record StringField : Type 0 where
   pub start : ℕ
   pub bytes : List ℕ
 
 -- "A string with its length is one field": whatever is wrong with either is at the length's first byte
-unfoldable pub textAt : List ℕ → ℕ → Field Text
-textAt s p =
+unfoldable pub stringAt : List ℕ → ℕ → Field StringField
+stringAt s p =
     andThen (uvarintAt s p) (λ n q.
     cond (ltb (length (drop q s)) n) (fault (Short (offset p)))
     (got (record { start = q; bytes = take n (drop q s) }) (q + n)))
 
 -- k strings in a row
-unfoldable pub textsAt : ℕ → List ℕ → ℕ → Field (List (List ℕ))
-textsAt zero s p = got [] p
-textsAt (suc k) s p = andThen (textAt s p) (λ t q. andThen (textsAt k s q) (λ ts r. got (t .bytes ∷ ts) r))
+unfoldable pub stringsAt : ℕ → List ℕ → ℕ → Field (List (List ℕ))
+stringsAt zero s p = got [] p
+stringsAt (suc k) s p = andThen (stringAt s p) (λ t q. andThen (stringsAt k s q) (λ ts r. got (t .bytes ∷ ts) r))
 
 -- a list of strings: where the first begins, and the strings
-pub record Texts : Type 0 where
+pub record StringList : Type 0 where
   pub first : ℕ
   pub strings : List (List ℕ)
 
 -- a count n (uvarint), and then 2n strings
-unfoldable pub textListAt : List ℕ → ℕ → Field Texts
-textListAt s p =
-    andThen (uvarintAt s p) (λ n q. andThen (textsAt (2 * n) s q) (λ ts r. got (record { first = q; strings = ts }) r))
+unfoldable pub stringListAt : List ℕ → ℕ → Field StringList
+stringListAt s p =
+    andThen (uvarintAt s p) (λ n q. andThen (stringsAt (2 * n) s q) (λ ts r. got (record { first = q; strings = ts }) r))

@@ -2,7 +2,7 @@
 pub mod Fields
 pub mod Bounds
 pub mod Kept
-pub mod Kinds
+pub mod Types
 pub mod Lists
 pub mod Strings
 pub mod Entries

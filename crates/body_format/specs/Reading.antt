@@ -16,8 +16,8 @@ use Rattle.body_format.specs.declared.EntryAnswer.{EntryAnswer}
 use Rattle.body_format.specs.declared.EntryAnswer.the-variants.{Found as EntryFound, End, Refused as EntryRefused}
 use Rattle.body_format.specs.declared.StringAnswer.{StringAnswer}
 use Rattle.body_format.specs.declared.StringAnswer.the-variants.{Found as StringFound, Refused as StringRefused}
-use Rattle.body_format.specs.Fields.{Field, got, fault, Text, textAt}
-use Rattle.body_format.specs.Entries.{Kind, Known, known, unknown, kindOf, hasRows, Entry, seriesEntry, sampleEntry, tombstoneEntry, exemplarEntry, metadataEntry, Placed, entryAt, firstAt, entries}
+use Rattle.body_format.specs.Fields.{Field, got, fault, StringField, stringAt}
+use Rattle.body_format.specs.Entries.{BodyType, series, samples, tombstones, exemplars, metadata, typeByte, Known, known, unknown, bodyTypeOf, hasRows, Entry, seriesEntry, sampleEntry, tombstoneEntry, exemplarEntry, metadataEntry, Placed, entryAt, firstAt, entries}
 
 -- ---- checking
 
@@ -32,14 +32,14 @@ checkKnown unknown s = CheckRefused UnknownType
 -- the number of entries of the body s, or why it is refused
 unfoldable pub checkBody : List ℕ → CheckAnswer
 checkBody [] = CheckRefused EmptyBody
-checkBody (b ∷ s) = checkKnown (kindOf b) (b ∷ s)
+checkBody (b ∷ s) = checkKnown (bodyTypeOf b) (b ∷ s)
 
 -- ---- an entry at a place
 
 -- how an entry with the strings from place `first` on and the place `next` after it is told
 abbrev pub view : Entry → ℕ → ℕ → EntryView
 view (seriesEntry id ts) first next = record {
-  kind = 1;
+  tag = typeByte series;
   id = seriesId id;
   time = timestamp (pos 0);
   max = timestamp (pos 0);
@@ -49,7 +49,7 @@ view (seriesEntry id ts) first next = record {
   next = offset next;
 }
 view (sampleEntry id t v) first next = record {
-  kind = 2;
+  tag = typeByte samples;
   id = seriesId id;
   time = timestamp t;
   max = timestamp (pos 0);
@@ -59,7 +59,7 @@ view (sampleEntry id t v) first next = record {
   next = offset next;
 }
 view (tombstoneEntry id lo hi) first next = record {
-  kind = 3;
+  tag = typeByte tombstones;
   id = seriesId id;
   time = timestamp lo;
   max = timestamp hi;
@@ -69,7 +69,7 @@ view (tombstoneEntry id lo hi) first next = record {
   next = offset next;
 }
 view (exemplarEntry id t v ts) first next = record {
-  kind = 4;
+  tag = typeByte exemplars;
   id = seriesId id;
   time = timestamp t;
   max = timestamp (pos 0);
@@ -79,7 +79,7 @@ view (exemplarEntry id t v ts) first next = record {
   next = offset next;
 }
 view (metadataEntry id m ts) first next = record {
-  kind = 6;
+  tag = typeByte metadata;
   id = seriesId id;
   time = timestamp (pos 0);
   max = timestamp (pos 0);
@@ -94,16 +94,16 @@ answerEntry (got e next) = EntryFound (view (e .entry) (e .first) next)
 answerEntry (fault why) = EntryRefused why
 
 -- the entry at place p, or a plain end at the body's end
-unfoldable pub entryOrEnd : Kind → List ℕ → ℕ → EntryAnswer
+unfoldable pub entryOrEnd : BodyType → List ℕ → ℕ → EntryAnswer
 entryOrEnd k s p = cond (eqb p (length s)) End (answerEntry (entryAt k s p))
 
 -- the first entry: place 1 stands for the place where the entries begin
-abbrev pub firstEntry : Kind → List ℕ → Field ℕ → EntryAnswer
+abbrev pub firstEntry : BodyType → List ℕ → Field ℕ → EntryAnswer
 firstEntry k s (got p q) = entryOrEnd k s p
 firstEntry k s (fault why) = EntryRefused why
 
 -- place 0, past the body, or 2 to 16 in types 2 and 4
-unfoldable pub badPlace : Kind → List ℕ → ℕ → Bool
+unfoldable pub badPlace : BodyType → List ℕ → ℕ → Bool
 badPlace k s p = eqb p 0 || (ltb (length s) p || (hasRows k && (leb 2 p && leb p 16)))
 
 abbrev pub entryKnown : Known → List ℕ → ℕ → EntryAnswer
@@ -114,19 +114,19 @@ entryKnown unknown s p = EntryRefused UnknownType
 
 unfoldable pub readEntry : List ℕ → ℕ → EntryAnswer
 readEntry [] p = EntryRefused EmptyBody
-readEntry (b ∷ s) p = entryKnown (kindOf b) (b ∷ s) p
+readEntry (b ∷ s) p = entryKnown (bodyTypeOf b) (b ∷ s) p
 
 -- ---- a string at a place
 
-abbrev pub answerString : Field Text → StringAnswer
+abbrev pub answerString : Field StringField → StringAnswer
 answerString (got t next) = StringFound (offset (t .start)) (length (t .bytes))
 answerString (fault why) = StringRefused why
 
 -- place 0 or past the body is BadPlace, and the body's end is Short
 abbrev pub stringKnown : Known → List ℕ → ℕ → StringAnswer
-stringKnown (known k) s p = cond (eqb p 0 || ltb (length s) p) (StringRefused BadPlace) (answerString (textAt s p))
+stringKnown (known k) s p = cond (eqb p 0 || ltb (length s) p) (StringRefused BadPlace) (answerString (stringAt s p))
 stringKnown unknown s p = StringRefused UnknownType
 
 unfoldable pub readString : List ℕ → ℕ → StringAnswer
 readString [] p = StringRefused EmptyBody
-readString (b ∷ s) p = stringKnown (kindOf b) (b ∷ s) p
+readString (b ∷ s) p = stringKnown (bodyTypeOf b) (b ∷ s) p

@@ -21,7 +21,7 @@ use Rattle.body_format.specs.declared.CheckAnswer.{CheckAnswer}
 use Rattle.body_format.specs.declared.CheckAnswer.the-variants.{Entries, Refused}
 use Rattle.body_format.specs.declared.EntryAnswer.the-variants.{End}
 use Rattle.body_format.specs.Fields.{got, fixedAt, uvarintAt, varintAt}
-use Rattle.body_format.specs.Entries.{tombstones, kindOf, Entry, sampleEntry, tombstoneEntry, rowAt, sampleAt, tombstoneAt, entriesFrom, entries}
+use Rattle.body_format.specs.Entries.{tombstones, bodyTypeOf, Entry, sampleEntry, tombstoneEntry, rowAt, sampleAt, tombstoneAt, entriesFrom, entries}
 use Rattle.body_format.specs.Reading.{checkBody, entryOrEnd, badPlace, readEntry, readString}
 use Rattle.body_format.specs.Building.{deltaBytes, rowBytes, entryBytes, Outcome, used, refused, start, badState, add}
 use Rattle.body_format.specs.Calls.{Addition, addSeries, addSample, addTombstone, addExemplar, addMetadata, entryFor, listIsBad, BuildResult, Builder, starter, builder, finalBuffer, finalUsed, Checker, EntryReader, StringReader, BodyCalls, Walks}
@@ -37,7 +37,7 @@ unfolding oneTombstone entries entriesFrom tombstoneAt fixedAt varintAt readVari
 one-entry = refl
 
 one-counted : checkBody oneTombstone ≡ Entries 1
-unfolding oneTombstone checkBody kindOf
+unfolding oneTombstone checkBody bodyTypeOf
 one-counted = rw one-entry
 
 -- a count one too large
@@ -67,7 +67,7 @@ no-walk E S s p es ends (done e) = refl
 
 -- and so does not keep the demand
 pub always-ends : (C : BodyCalls) → ((s : List ℕ) (p : ℕ) → C .entry s p ≡ End) → Demand2 C → ⊥
-unfolding oneTombstone kindOf
+unfolding oneTombstone bodyTypeOf
 always-ends C ends d =
     let z : _≡_ {A = ℕ} 1 0 = no-walk (C .entry) (C .string) oneTombstone 1 _ ends (d .walks 3 _ tombstones _ 11 refl one-entry) in omega arith
 
@@ -79,7 +79,7 @@ eleven : List ℕ
 eleven = replicate 11 255
 
 added-there : add (starter eleven 3 .buffer) 3 1 (entryFor addition) false ≡ used 11
-unfolding eleven addition start kindOf add badState entryBytes be8 be4 varint zigzag uvarint groups
+unfolding eleven addition start bodyTypeOf add badState entryBytes be8 be4 varint zigzag uvarint groups
 added-there = refl
 
 -- a builder that always says NoRoom
@@ -101,13 +101,13 @@ writesNothing b t u a = record { outcome = add b t u (entryFor a) (listIsBad a);
 
 nothing-there : checkBody (take (finalUsed writesNothing 3 (starter eleven 3 .buffer) 1 (addition ∷ [])) (finalBuffer writesNothing 3 (starter eleven 3 .buffer) 1 (addition ∷ [])))
     ≡ Refused (Short (offset 9))
-unfolding eleven addition finalUsed finalBuffer start kindOf add badState entryBytes be8 be4 varint zigzag uvarint groups checkBody entries entriesFrom tombstoneAt fixedAt varintAt readVarint signed unzigzag readUvarint readGroups after readBe8 readBe4
+unfolding eleven addition finalUsed finalBuffer start bodyTypeOf add badState entryBytes be8 be4 varint zigzag uvarint groups checkBody entries entriesFrom tombstoneAt fixedAt varintAt readVarint signed unzigzag readUvarint readGroups after readBe8 readBe4
 nothing-there = refl
 
 pub nothing-down : (C : Checker) (E : EntryReader) (S : StringReader)
     → Demand2 (record { start = starter; add = writesNothing; check = C; entry = E; string = S })
     → ⊥
-unfolding addition eleven start kindOf
+unfolding addition eleven start bodyTypeOf
 nothing-down C E S d =
     let z : _≡_ {A = ℕ} 0 1 =
     cc (sym nothing-there ∙ sym (d .counts _) ∙ d .back eleven 3 (addition ∷ []) ((omega arith, omega arith, omega arith), tt) refl .0) in
@@ -139,12 +139,12 @@ seven = addSample 7 (pos 0) 0
 
 -- reading back alone does not stop it: the sample comes out as it was put in
 pub shifted-walks : Walks readEntry readString (shiftsFirst fresh 2 1 seven .buffer) 1 (entryFor seven ∷ [])
-unfolding add badState kindOf entryBytes rowBytes be8 be4 uvarint groups minus plus toBits fromBits readEntry entryOrEnd badPlace fixedAt sampleAt rowAt uvarintAt readUvarint readGroups after readBe8 readBe4
+unfolding add badState bodyTypeOf entryBytes rowBytes be8 be4 uvarint groups minus plus toBits fromBits readEntry entryOrEnd badPlace fixedAt sampleAt rowAt uvarintAt readUvarint readGroups after readBe8 readBe4
 shifted-walks = next 27 refl tt (done refl)
 
 -- the bytes do: byte 8, the last of the first id, is 7 and not 6
 pub shifts-first : (C : BodyCalls) → ((b : List ℕ) (t u : ℕ) (a : Addition) → C .add b t u a ≡ shiftsFirst b t u a) → Demand2 C → ⊥
-unfolding add badState kindOf entryBytes rowBytes be8 be4 uvarint groups minus toBits
+unfolding add badState bodyTypeOf entryBytes rowBytes be8 be4 uvarint groups minus toBits
 shifts-first C shifted d =
     let z : _≡_ {A = ℕ} 6 7 = ap (λ (r : BuildResult). getD (r .buffer) 8 0) (sym (shifted fresh 2 1 seven) ∙ d .adds fresh 2 1 seven) in
     omega arith

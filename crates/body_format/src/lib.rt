@@ -4,16 +4,27 @@ use wal_types::Refusal;
 use wal_types::SeriesId;
 use wal_types::Timestamp;
 
+// The types of a body, as `typeByte` of `specs/Entries.antt` has them: its tag, the first byte.
+pub const SERIES: u8 = 1;
+
+pub const SAMPLES: u8 = 2;
+
+pub const TOMBSTONES: u8 = 3;
+
+pub const EXEMPLARS: u8 = 4;
+
+pub const METADATA: u8 = 6;
+
 // What checking a body answers: how many entries it has, or the first fault.
 pub enum CheckAnswer {
     Entries(usize),
     Refused(Refusal),
 }
 
-// An entry as it is read at a place of a body. `kind` is the body's type. A number that the type lacks is 0, and the strings of an entry
+// An entry as it is read at a place of a body. `tag` is the body's type. A number that the type lacks is 0, and the strings of an entry
 // that has none begin at the place after it.
 pub struct EntryView {
-    pub kind: u8,
+    pub tag: u8,
     pub id: SeriesId,
     // The time of a row, the minimum of a tombstone.
     pub time: Timestamp,

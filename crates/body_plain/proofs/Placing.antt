@@ -8,12 +8,12 @@ use native.Mathlib.Omega.{arith}
 use borrow.Author.Tests.{eqb-true, eqb-false}
 use lib.Dec.{eqb}
 use lib.ListN.{length}
-use Rattle.body_format.specs.Entries.{Kind, known, hasRows, firstAt}
+use Rattle.body_format.specs.Entries.{BodyType, known, hasRows, firstAt}
 use Rattle.body_format.specs.Reading.{entryOrEnd, firstEntry, entryKnown}
 use Rattle.body_format.specs.Laws.Places.{known-first, known-later}
 use Rattle.body_fields.specs.Laws.{never}
 
-pub plain-here : (k : Kind) (s : List ℕ) (p : ℕ) → hasRows k ≡ false → 0 < p → p ≤ length s
+pub plain-here : (k : BodyType) (s : List ℕ) (p : ℕ) → hasRows k ≡ false → 0 < p → p ≤ length s
     → entryKnown (known k) s p ≡ entryOrEnd k s p
 plain-here k s p n h l = go (eqb p 1) refl
   where

@@ -7,7 +7,7 @@ use lib.ListN.{length}
 use Rattle.wal_types.specs.declared.Refusal.{Refusal}
 use Rattle.wal_types.specs.Terms.{offset, seriesId, timestamp}
 use Rattle.body_format.specs.declared.EntryAnswer.the-variants.{Found, Refused}
-use Rattle.body_format.specs.Fields.{got, fault, Texts, fixedAt, uvarintAt, varintAt, byteAt, textListAt}
+use Rattle.body_format.specs.Fields.{got, fault, StringList, fixedAt, uvarintAt, varintAt, byteAt, stringListAt}
 use Rattle.body_format.specs.Entries.{seriesAt, tombstoneAt, metadataAt}
 use Rattle.body_format.specs.Reading.{answerEntry}
 
@@ -18,15 +18,15 @@ module _ (s : List ℕ) (p : ℕ) where
   unfolding seriesAt
   series-1 h = rw h
 
-  pub series-2 : {id q : ℕ} {why : Refusal} → fixedAt s p ≡ got id q → textListAt s q ≡ fault why
+  pub series-2 : {id q : ℕ} {why : Refusal} → fixedAt s p ≡ got id q → stringListAt s q ≡ fault why
       → Refused why ≡ answerEntry (seriesAt s p)
   unfolding seriesAt
   series-2 h i = rw (h, i)
 
   pub series-all : {id q n first next : ℕ} → fixedAt s p ≡ got id q
-      → (l : Texts) × (textListAt s q ≡ got l next) × (length (l .strings) ≡ n) × (l .first ≡ first)
+      → (l : StringList) × (stringListAt s q ≡ got l next) × (length (l .strings) ≡ n) × (l .first ≡ first)
       → Found (record {
-        kind = 1;
+        tag = 1;
         id = seriesId id;
         time = timestamp (pos 0);
         max = timestamp (pos 0);
@@ -59,7 +59,7 @@ module _ (s : List ℕ) (p : ℕ) where
   pub tombstone-all : {id q r next : ℕ} {min max x y : ℤ}
       → fixedAt s p ≡ got id q → varintAt s q ≡ got min r → varintAt s r ≡ got max next → x ≡ min → y ≡ max
       → Found (record {
-        kind = 3;
+        tag = 3;
         id = seriesId id;
         time = timestamp x;
         max = timestamp y;
@@ -84,15 +84,15 @@ module _ (s : List ℕ) (p : ℕ) where
   metadata-2 h i = rw (h, i)
 
   pub metadata-3 : {id q m r : ℕ} {why : Refusal}
-      → uvarintAt s p ≡ got id q → byteAt s q ≡ got m r → textListAt s r ≡ fault why
+      → uvarintAt s p ≡ got id q → byteAt s q ≡ got m r → stringListAt s r ≡ fault why
       → Refused why ≡ answerEntry (metadataAt s p)
   unfolding metadataAt
   metadata-3 h i j = rw (h, i, j)
 
   pub metadata-all : {id q m r n first next : ℕ} → uvarintAt s p ≡ got id q → byteAt s q ≡ got m r
-      → (l : Texts) × (textListAt s r ≡ got l next) × (length (l .strings) ≡ n) × (l .first ≡ first)
+      → (l : StringList) × (stringListAt s r ≡ got l next) × (length (l .strings) ≡ n) × (l .first ≡ first)
       → Found (record {
-        kind = 6;
+        tag = 6;
         id = seriesId id;
         time = timestamp (pos 0);
         max = timestamp (pos 0);

@@ -3,7 +3,7 @@
 use body_fields::NumberRead;
 use body_fields::Place;
 use body_fields::SignedRead;
-use body_fields::TextListRead;
+use body_fields::StringListRead;
 use body_fields::byte_at;
 use body_fields::ends::byte_end;
 use body_fields::ends::fixed_end;
@@ -11,11 +11,14 @@ use body_fields::ends::list_end;
 use body_fields::ends::uvarint_end;
 use body_fields::ends::varint_end;
 use body_fields::fixed_at;
-use body_fields::text_list_at;
+use body_fields::string_list_at;
 use body_fields::uvarint_at;
 use body_fields::varint_at;
 use body_format::EntryAnswer;
 use body_format::EntryView;
+use body_format::METADATA;
+use body_format::SERIES;
+use body_format::TOMBSTONES;
 use wal_types::Offset;
 use wal_types::Refusal;
 use wal_types::SeriesId;
@@ -27,7 +30,7 @@ ghost use Rattle.body_fields.specs.Ends.{endOf};
 ghost use Rattle.body_plain.specs.Plain.{plainIn};
 
 // The types without rows.
-pub enum PlainKind {
+pub enum PlainType {
     Series,
     Tombstones,
     Metadata,
@@ -42,9 +45,9 @@ fn series_at(body: &[u8], at: usize) -> EntryAnswer
         NumberRead::Got {
             value: id,
             next: labels,
-        } => match text_list_at(body, labels) {
-            TextListRead::Got { count, first, next } => EntryAnswer::Found(EntryView {
-                kind: 1,
+        } => match string_list_at(body, labels) {
+            StringListRead::Got { count, first, next } => EntryAnswer::Found(EntryView {
+                tag: SERIES,
                 id: SeriesId(id),
                 time: Timestamp(0),
                 max: Timestamp(0),
@@ -53,7 +56,7 @@ fn series_at(body: &[u8], at: usize) -> EntryAnswer
                 first: Offset(first),
                 next: Offset(next),
             }),
-            TextListRead::Fault(why) => EntryAnswer::Refused(why),
+            StringListRead::Fault(why) => EntryAnswer::Refused(why),
         },
         NumberRead::Fault(why) => EntryAnswer::Refused(why),
     }
@@ -81,7 +84,7 @@ fn tombstone_at(body: &[u8], at: usize) -> EntryAnswer
                 next: third,
             } => match varint_at(body, third) {
                 SignedRead::Got { value: max, next } => EntryAnswer::Found(EntryView {
-                    kind: 3,
+                    tag: TOMBSTONES,
                     id: SeriesId(id),
                     time: Timestamp(min),
                     max: Timestamp(max),
@@ -119,9 +122,9 @@ fn metadata_at(body: &[u8], at: usize) -> EntryAnswer
             NumberRead::Got {
                 value: metric,
                 next: third,
-            } => match text_list_at(body, third) {
-                TextListRead::Got { count, first, next } => EntryAnswer::Found(EntryView {
-                    kind: 6,
+            } => match string_list_at(body, third) {
+                StringListRead::Got { count, first, next } => EntryAnswer::Found(EntryView {
+                    tag: METADATA,
                     id: SeriesId(id),
                     time: Timestamp(0),
                     max: Timestamp(0),
@@ -130,7 +133,7 @@ fn metadata_at(body: &[u8], at: usize) -> EntryAnswer
                     first: Offset(first),
                     next: Offset(next),
                 }),
-                TextListRead::Fault(why) => EntryAnswer::Refused(why),
+                StringListRead::Fault(why) => EntryAnswer::Refused(why),
             },
             NumberRead::Fault(why) => EntryAnswer::Refused(why),
         },
@@ -149,8 +152,8 @@ fn metadata_end(body: &[u8], at: usize) -> Place
 // ---- an entry of any of them
 
 // The entry at a place of a body, or the plain end at the body's end.
-pub fn plain_entry(body: &[u8], kind: PlainKind, at: usize) -> EntryAnswer
-    ensures { λ r. ⌜ r ≡ entryKnown (known (plainIn kind)) (now (body .entry)) at ⌝ }
+pub fn plain_entry(body: &[u8], tag: PlainType, at: usize) -> EntryAnswer
+    ensures { λ r. ⌜ r ≡ entryKnown (known (plainIn tag)) (now (body .entry)) at ⌝ }
 {
     if at == 0 {
         return EntryAnswer::Refused(Refusal::BadPlace);
@@ -161,20 +164,20 @@ pub fn plain_entry(body: &[u8], kind: PlainKind, at: usize) -> EntryAnswer
     if at == body.len() {
         return EntryAnswer::End;
     }
-    match kind {
-        PlainKind::Series => series_at(body, at),
-        PlainKind::Tombstones => tombstone_at(body, at),
-        PlainKind::Metadata => metadata_at(body, at),
+    match tag {
+        PlainType::Series => series_at(body, at),
+        PlainType::Tombstones => tombstone_at(body, at),
+        PlainType::Metadata => metadata_at(body, at),
     }
 }
 
 // The place after the entry at a place.
-pub fn plain_end(body: &[u8], kind: PlainKind, at: usize) -> Place
-    ensures { λ r. ⌜ r ≡ endOf (entryAt (plainIn kind) (now (body .entry)) at) ⌝ }
+pub fn plain_end(body: &[u8], tag: PlainType, at: usize) -> Place
+    ensures { λ r. ⌜ r ≡ endOf (entryAt (plainIn tag) (now (body .entry)) at) ⌝ }
 {
-    match kind {
-        PlainKind::Series => series_end(body, at),
-        PlainKind::Tombstones => tombstone_end(body, at),
-        PlainKind::Metadata => metadata_end(body, at),
+    match tag {
+        PlainType::Series => series_end(body, at),
+        PlainType::Tombstones => tombstone_end(body, at),
+        PlainType::Metadata => metadata_end(body, at),
     }
 }

@@ -11,8 +11,8 @@ use Rattle.wal_types.specs.Terms.{offset}
 use Rattle.body_format.specs.declared.CheckAnswer.{CheckAnswer}
 use Rattle.body_format.specs.declared.CheckAnswer.the-variants.{Entries, Refused as CheckRefused}
 use Rattle.body_format.specs.declared.StringAnswer.the-variants.{Found as StringFound, Refused as StringRefused}
-use Rattle.body_format.specs.Fields.{Field, got, fault, andThen, Text}
-use Rattle.body_format.specs.Entries.{Kind, Entry, Placed, hasRows, entryAt, entriesFrom, firstAt, entries, known}
+use Rattle.body_format.specs.Fields.{Field, got, fault, andThen, StringField}
+use Rattle.body_format.specs.Entries.{BodyType, Entry, Placed, hasRows, entryAt, entriesFrom, firstAt, entries, known}
 use Rattle.body_format.specs.Reading.{checkFields, checkKnown, checkBody, answerString}
 use Rattle.body_format.specs.Laws.Bounds.{of-got, entry-ahead}
 use Rattle.body_format.specs.Laws.Lists.{entries-end, entries-suc, first-bounds}
@@ -24,12 +24,12 @@ use Rattle.body_rows.specs.Rows.{placeRead}
 
 -- ---- a string
 
-pub string-found : (f : Field Text) {start size q : ℕ}
-    → (t : Text) × (f ≡ got t q) × (t .start ≡ start) × (length (t .bytes) ≡ size)
+pub string-found : (f : Field StringField) {start size q : ℕ}
+    → (t : StringField) × (f ≡ got t q) × (t .start ≡ start) × (length (t .bytes) ≡ size)
     → StringFound (offset start) size ≡ answerString f
 string-found f (t, e, a, b) = rw (e, ← a, ← b)
 
-pub string-refused : (f : Field Text) {why : Refusal} → f ≡ fault why → StringRefused why ≡ answerString f
+pub string-refused : (f : Field StringField) {why : Refusal} → f ≡ fault why → StringRefused why ≡ answerString f
 string-refused f e = rw e
 
 -- ---- entries
@@ -48,18 +48,18 @@ one-more c e (got es r) = ap Entries (omega arith)
 one-more c e (fault why) = refl
 
 -- from `at` on, behind `count` entries; `fuel` is more than the bytes left
-pub record Counting (k : Kind) (s : List ℕ) (first at count : ℕ) : Type 0 where
+pub record Counting (k : BodyType) (s : List ℕ) (first at count : ℕ) : Type 0 where
   pub fuel : ℕ
   pub enough : length s - at < fuel
   pub inside : at ≤ length s
   pub few : count ≤ at
   pub same : counted count (entriesFrom fuel k s at) ≡ checkFields (entriesFrom (length s) k s first)
 
-abbrev pub EndTold : Kind → List ℕ → ℕ → ℕ → ℕ → Place → Type 0
+abbrev pub EndTold : BodyType → List ℕ → ℕ → ℕ → ℕ → Place → Type 0
 EndTold k s first at count (At q) = Counting k s first q (count + 1) × (at < q) × (q ≤ length s)
 EndTold k s first at count (Fault why) = CheckRefused why ≡ checkFields (entriesFrom (length s) k s first)
 
-pub counting : (k : Kind) (s : List ℕ) (first : ℕ) → 0 < first → first ≤ length s → Counting k s first first 0
+pub counting : (k : BodyType) (s : List ℕ) (first : ℕ) → 0 < first → first ≤ length s → Counting k s first first 0
 counting k s first h l = record {
   fuel = length s;
   enough = omega arith;
@@ -68,7 +68,7 @@ counting k s first h l = record {
   same = counted-none (entriesFrom (length s) k s first);
 }
 
-end-step : (k : Kind) (s : List ℕ) (first at count n : ℕ) → length s - at < suc n → at < length s → count ≤ at
+end-step : (k : BodyType) (s : List ℕ) (first at count n : ℕ) → length s - at < suc n → at < length s → count ≤ at
     → counted count (entriesFrom (suc n) k s at) ≡ checkFields (entriesFrom (length s) k s first)
     → (f : Field Placed) → entryAt k s at ≡ f → EndTold k s first at count (endOf f)
 end-step k s first at count n m l w same (fault why) h = rw (entries-suc k s n at l, h) at same
@@ -79,7 +79,7 @@ end-step k s first at count n m l w same (got x q) h =
     (record { fuel = n; enough = omega arith; inside = b .1; few = omega arith; same = t }, omega arith, b .1)
 
 -- one entry more
-pub end-turn : (k : Kind) (s : List ℕ) (first at count : ℕ) → Counting k s first at count → at < length s
+pub end-turn : (k : BodyType) (s : List ℕ) (first at count : ℕ) → Counting k s first at count → at < length s
     → (r : Place) → r ≡ endOf (entryAt k s at) → EndTold k s first at count r
 end-turn k s first at count i l r e = rw e (go (i .fuel) (i .enough) (i .same))
   where
@@ -90,7 +90,7 @@ end-turn k s first at count i l r e = rw e (go (i .fuel) (i .enough) (i .same))
     go (suc n) m same = end-step k s first at count n m l (i .few) same (entryAt k s at) refl
 
 -- none is left
-pub count-done : (k : Kind) (s : List ℕ) (first at count : ℕ) → Counting k s first at count → length s ≤ at
+pub count-done : (k : BodyType) (s : List ℕ) (first at count : ℕ) → Counting k s first at count → length s ≤ at
     → Entries count ≡ checkFields (entriesFrom (length s) k s first)
 count-done k s first at count i l =
     ap Entries (sym (add-zero count)) ∙ (rw (entries-end k s (i .fuel) at (omega (arith, i .inside))) at (i .same))
@@ -107,13 +107,13 @@ place-fault (got n q) r e g = never cc
 place-fault (fault w) r e g = cc
 
 -- all of them
-pub check-all : (k : Kind) (s : List ℕ) {first : ℕ}
+pub check-all : (k : BodyType) (s : List ℕ) {first : ℕ}
     → checkBody s ≡ checkKnown (known k) s → (q : ℕ) × (firstAt (hasRows k) s ≡ got first q)
     → checkFields (entriesFrom (length s) k s first) ≡ checkBody s
 unfolding entries
 check-all k s h (q, e) = rw (h, e)
 
-pub check-fault : (k : Kind) (s : List ℕ) {why : Refusal}
+pub check-fault : (k : BodyType) (s : List ℕ) {why : Refusal}
     → checkBody s ≡ checkKnown (known k) s → firstAt (hasRows k) s ≡ fault why → CheckRefused why ≡ checkBody s
 unfolding entries
 check-fault k s h e = rw (h, e)

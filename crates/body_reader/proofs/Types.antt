@@ -9,18 +9,18 @@ use Rattle.wal_types.specs.declared.Refusal.the-variants.{UnknownType}
 use Rattle.body_format.specs.declared.CheckAnswer.the-variants.{Refused as CheckRefused}
 use Rattle.body_format.specs.declared.EntryAnswer.the-variants.{Refused as EntryRefused}
 use Rattle.body_format.specs.declared.StringAnswer.the-variants.{Refused as StringRefused}
-use Rattle.body_format.specs.Entries.{Kind, series, samples, tombstones, exemplars, metadata}
-use Rattle.body_format.specs.Entries.{Known, known, unknown, kindOf}
+use Rattle.body_format.specs.Entries.{BodyType, series, samples, tombstones, exemplars, metadata}
+use Rattle.body_format.specs.Entries.{Known, known, unknown, bodyTypeOf}
 use Rattle.body_format.specs.Reading.{checkKnown, checkBody, entryKnown, readEntry, stringKnown, readString}
 use Rattle.body_fields.specs.Laws.{never}
-use Rattle.body_reader.specs.declared.kinds.BodyKind.{BodyKind}
-use Rattle.body_reader.specs.declared.kinds.TypeRead.{TypeRead}
-use Rattle.body_reader.specs.declared.kinds.TypeRead.the-variants as type
-use Rattle.body_reader.specs.Kinds.{kindIn, typeFound, typeRead}
+use Rattle.body_reader.specs.declared.tags.BodyLayout.{BodyLayout}
+use Rattle.body_reader.specs.declared.tags.TypeRead.{TypeRead}
+use Rattle.body_reader.specs.declared.tags.TypeRead.the-variants as type
+use Rattle.body_reader.specs.Layouts.{typeIn, typeFound, typeRead}
 
 -- an answer by the type that was found
-abbrev pub byType : {A : Type 0} → (Refusal → A) → (Kind → A) → TypeRead → A
-byType r f (type.Known k) = f (kindIn k)
+abbrev pub byType : {A : Type 0} → (Refusal → A) → (BodyType → A) → TypeRead → A
+byType r f (type.Known k) = f (typeIn k)
 byType r f (type.Refused why) = r why
 
 -- one that is f of a known type, and UnknownType of any other byte
@@ -36,22 +36,22 @@ same r f e unknown = e
 pub check-type : (s : List ℕ) → checkBody s ≡ byType CheckRefused (λ k. checkKnown (known k) s) (typeRead s)
 unfolding checkBody typeRead
 check-type [] = refl
-check-type (b ∷ s) = same CheckRefused (λ n. checkKnown n (b ∷ s)) refl (kindOf b)
+check-type (b ∷ s) = same CheckRefused (λ n. checkKnown n (b ∷ s)) refl (bodyTypeOf b)
 
 pub entry-type : (s : List ℕ) (p : ℕ)
     → readEntry s p ≡ byType EntryRefused (λ k. entryKnown (known k) s p) (typeRead s)
 unfolding readEntry typeRead
 entry-type [] p = refl
-entry-type (b ∷ s) p = same EntryRefused (λ n. entryKnown n (b ∷ s) p) refl (kindOf b)
+entry-type (b ∷ s) p = same EntryRefused (λ n. entryKnown n (b ∷ s) p) refl (bodyTypeOf b)
 
 pub string-type : (s : List ℕ) (p : ℕ)
     → readString s p ≡ byType StringRefused (λ k. stringKnown (known k) s p) (typeRead s)
 unfolding readString typeRead
 string-type [] p = refl
-string-type (b ∷ s) p = same StringRefused (λ n. stringKnown n (b ∷ s) p) refl (kindOf b)
+string-type (b ∷ s) p = same StringRefused (λ n. stringKnown n (b ∷ s) p) refl (bodyTypeOf b)
 
 -- a body with a type has a byte
-pub known-some : (s : List ℕ) (r : TypeRead) {k : BodyKind} → r ≡ typeRead s → r ≡ type.Known k → 0 < length s
+pub known-some : (s : List ℕ) (r : TypeRead) {k : BodyLayout} → r ≡ typeRead s → r ≡ type.Known k → 0 < length s
 unfolding typeRead
 known-some [] r e g = never cc
 known-some (b ∷ s) r e g = omega arith

@@ -1,21 +1,21 @@
 // A record body in a lent slice: checked whole, and read entry by entry and string by string. What
 // the calls answer is what the definitions of the crate body_format say.
-mod kinds;
 mod places;
+mod tags;
 
 use body_fields::Place;
-use body_fields::TextRead;
-use body_fields::text_at;
+use body_fields::StringRead;
+use body_fields::string_field_at;
 use body_format::CheckAnswer;
 use body_format::EntryAnswer;
 use body_format::StringAnswer;
 use body_plain::plain_entry;
 use body_rows::row_entry;
-use kinds::BodyKind;
-use kinds::TypeRead;
-use kinds::body_type;
 use places::count_entries;
 use places::entries_begin;
+use tags::BodyLayout;
+use tags::TypeRead;
+use tags::body_type;
 use wal_types::Offset;
 use wal_types::Refusal;
 ghost use mathlib.Core.Path.{_≡_};
@@ -26,8 +26,8 @@ pub fn check(body: &[u8]) -> CheckAnswer
     ensures { λ r. ⌜ r ≡ checkBody (now (body .entry)) ⌝ }
 {
     match body_type(body) {
-        TypeRead::Known(kind) => match entries_begin(body, kind) {
-            Place::At(first) => count_entries(body, kind, first),
+        TypeRead::Known(tag) => match entries_begin(body, tag) {
+            Place::At(first) => count_entries(body, tag, first),
             Place::Fault(why) => CheckAnswer::Refused(why),
         },
         TypeRead::Refused(why) => CheckAnswer::Refused(why),
@@ -41,9 +41,9 @@ pub fn entry_at(body: &[u8], place: Offset) -> EntryAnswer
 {
     let at = place.0;
     match body_type(body) {
-        TypeRead::Known(kind) => match kind {
-            BodyKind::Rows { labelled } => row_entry(body, labelled, at),
-            BodyKind::Plain(plain) => plain_entry(body, plain, at),
+        TypeRead::Known(tag) => match tag {
+            BodyLayout::Rows { labelled } => row_entry(body, labelled, at),
+            BodyLayout::Plain(plain) => plain_entry(body, plain, at),
         },
         TypeRead::Refused(why) => EntryAnswer::Refused(why),
     }
@@ -62,8 +62,8 @@ pub fn string_at(body: &[u8], place: Offset) -> StringAnswer
             if body.len() < at {
                 return StringAnswer::Refused(Refusal::BadPlace);
             }
-            match text_at(body, at) {
-                TextRead::Got {
+            match string_field_at(body, at) {
+                StringRead::Got {
                     start,
                     length,
                     next: _,
@@ -71,7 +71,7 @@ pub fn string_at(body: &[u8], place: Offset) -> StringAnswer
                     start: Offset(start),
                     length,
                 },
-                TextRead::Fault(why) => StringAnswer::Refused(why),
+                StringRead::Fault(why) => StringAnswer::Refused(why),
             }
         }
         TypeRead::Refused(why) => StringAnswer::Refused(why),

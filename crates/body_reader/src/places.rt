@@ -1,5 +1,5 @@
 // Where the entries of a body begin, where each ends, and how many there are.
-use crate::kinds::BodyKind;
+use crate::tags::BodyLayout;
 use body_fields::Place;
 use body_format::CheckAnswer;
 use body_plain::plain_end;
@@ -12,38 +12,38 @@ ghost use Rattle.body_format.specs.Entries.{hasRows, firstAt, entryAt, entriesF
 ghost use Rattle.body_format.specs.Reading.{checkFields};
 ghost use Rattle.body_fields.specs.Ends.{endOf};
 ghost use Rattle.body_rows.specs.Rows.{placeRead};
-ghost use Rattle.body_reader.specs.Kinds.{kindIn};
+ghost use Rattle.body_reader.specs.Layouts.{typeIn};
 
 // Where the entries of a type begin.
-pub(crate) fn entries_begin(body: &[u8], kind: BodyKind) -> Place
-    ensures { λ r. ⌜ r ≡ placeRead (firstAt (hasRows (kindIn kind)) (now (body .entry))) ⌝ }
+pub(crate) fn entries_begin(body: &[u8], tag: BodyLayout) -> Place
+    ensures { λ r. ⌜ r ≡ placeRead (firstAt (hasRows (typeIn tag)) (now (body .entry))) ⌝ }
 {
-    match kind {
-        BodyKind::Rows { labelled: _ } => rows_begin(body),
-        BodyKind::Plain(_) => Place::At(1),
+    match tag {
+        BodyLayout::Rows { labelled: _ } => rows_begin(body),
+        BodyLayout::Plain(_) => Place::At(1),
     }
 }
 
 // The place after the entry at a place.
-fn entry_end(body: &[u8], kind: BodyKind, at: usize) -> Place
-    ensures { λ r. ⌜ r ≡ endOf (entryAt (kindIn kind) (now (body .entry)) at) ⌝ }
+fn entry_end(body: &[u8], tag: BodyLayout, at: usize) -> Place
+    ensures { λ r. ⌜ r ≡ endOf (entryAt (typeIn tag) (now (body .entry)) at) ⌝ }
 {
-    match kind {
-        BodyKind::Rows { labelled } => row_entry_end(body, labelled, at),
-        BodyKind::Plain(plain) => plain_end(body, plain, at),
+    match tag {
+        BodyLayout::Rows { labelled } => row_entry_end(body, labelled, at),
+        BodyLayout::Plain(plain) => plain_end(body, plain, at),
     }
 }
 
 // How many entries there are from a place to the end of the body.
-pub(crate) fn count_entries(body: &[u8], kind: BodyKind, first: usize) -> CheckAnswer
+pub(crate) fn count_entries(body: &[u8], tag: BodyLayout, first: usize) -> CheckAnswer
     requires { ⌜ (0 < first) × (first ≤ length (now body)) ⌝ }
     ensures { λ r. ⌜
-        r ≡ checkFields (entriesFrom (length (now (body .entry))) (kindIn kind) (now (body .entry)) first) ⌝ }
+        r ≡ checkFields (entriesFrom (length (now (body .entry))) (typeIn tag) (now (body .entry)) first) ⌝ }
 {
     let mut at = first;
     let mut count: usize = 0;
     while at < body.len() {
-        match entry_end(body, kind, at) {
+        match entry_end(body, tag, at) {
             Place::At(next) => {
                 at = next;
                 count += 1;

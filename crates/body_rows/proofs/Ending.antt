@@ -2,7 +2,7 @@
 use mathlib.Core.Path.{_≡_, sym, _∙_}
 use mathlib.Core.List.{List}
 use Prim.Native.Nat.{ℕ}
-use Rattle.body_format.specs.Fields.{fixedAt, uvarintAt, textListAt}
+use Rattle.body_format.specs.Fields.{fixedAt, uvarintAt, stringListAt}
 use Rattle.body_format.specs.Entries.{rowAt, sampleAt, exemplarAt}
 use Rattle.body_fields.specs.declared.Place.{Place}
 use Rattle.body_fields.specs.Ends.{endOf, onward}
@@ -18,7 +18,7 @@ module _ (s : List ℕ) (p : ℕ) {t : Place} where
   unfolding sampleAt
   sample-ends e = e ∙ sym (end-one (rowAt s p) _)
 
-  pub exemplar-ends : {q : Place} → q ≡ endOf (rowAt s p) → t ≡ onward q (λ x. endOf (textListAt s x))
+  pub exemplar-ends : {q : Place} → q ≡ endOf (rowAt s p) → t ≡ onward q (λ x. endOf (stringListAt s x))
       → t ≡ endOf (exemplarAt s p)
   unfolding exemplarAt
-  exemplar-ends = end-two (rowAt s p) (textListAt s) _
+  exemplar-ends = end-two (rowAt s p) (stringListAt s) _

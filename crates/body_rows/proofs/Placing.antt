@@ -13,7 +13,7 @@ use Rattle.wal_types.specs.declared.Refusal.the-variants.{BadPlace, Short}
 use Rattle.wal_types.specs.Terms.{offset}
 use Rattle.body_format.specs.declared.EntryAnswer.the-variants.{End, Refused}
 use Rattle.body_format.specs.Fields.{fault}
-use Rattle.body_format.specs.Entries.{Kind, known, hasRows, firstAt}
+use Rattle.body_format.specs.Entries.{BodyType, known, hasRows, firstAt}
 use Rattle.body_format.specs.Reading.{badPlace, entryOrEnd, firstEntry, entryKnown}
 use Rattle.body_format.specs.Laws.Fields.{fixed-got, fixed-short}
 use Rattle.body_format.specs.Laws.Lists.{first-rows, first-one}
@@ -31,7 +31,7 @@ module _ (s : List ℕ) (h : length s ≡ 1 → ⊥) where
 
 -- ---- which row a place stands for
 
-module _ (k : Kind) (s : List ℕ) (p : ℕ) (n : hasRows k ≡ true) where
+module _ (k : BodyType) (s : List ℕ) (p : ℕ) (n : hasRows k ≡ true) where
   -- among the first id and the first timestamp
   among : 2 ≤ p → p ≤ 16 → p ≤ length s → Refused BadPlace ≡ entryKnown (known k) s p
   unfolding badPlace

@@ -10,15 +10,15 @@ use Rattle.wal_types.specs.declared.SeriesId.{SeriesId}
 use Rattle.wal_types.specs.declared.Timestamp.{Timestamp}
 use Rattle.wal_types.specs.Terms.{offset, seriesId, timestamp}
 use Rattle.body_format.specs.declared.EntryAnswer.the-variants.{Found, Refused}
-use Rattle.body_format.specs.Fields.{Field, got, fault, Texts, fixedAt, uvarintAt, textListAt}
+use Rattle.body_format.specs.Fields.{Field, got, fault, StringList, fixedAt, uvarintAt, stringListAt}
 use Rattle.body_format.specs.Entries.{Row, typeByte, rowAt, sampleAt, exemplarAt, entryAt}
 use Rattle.body_format.specs.Reading.{answerEntry}
-use Rattle.body_fields.specs.declared.TextListRead.{TextListRead}
-use Rattle.body_fields.specs.declared.TextListRead.the-variants as list
+use Rattle.body_fields.specs.declared.StringListRead.{StringListRead}
+use Rattle.body_fields.specs.declared.StringListRead.the-variants as list
 use Rattle.body_fields.specs.Laws.{never, list-got, list-fault}
 use Rattle.body_rows.specs.declared.RowRead.{RowRead}
 use Rattle.body_rows.specs.declared.RowRead.the-variants as row
-use Rattle.body_rows.specs.Rows.{rowsKind}
+use Rattle.body_rows.specs.Rows.{rowsType}
 use Rattle.body_rows.specs.Forms.{BaseIn, rowRead, rowGot, labelsRead}
 
 -- ---- what a row that was read says
@@ -64,22 +64,22 @@ module _ (s : List ℕ) (p : ℕ) where
   -- ---- a row, and its labels
 
   pub row-entry-1 : (labelled : Bool) {why : Refusal} → rowAt s p ≡ fault why
-      → Refused why ≡ answerEntry (entryAt (rowsKind labelled) s p)
+      → Refused why ≡ answerEntry (entryAt (rowsType labelled) s p)
   unfolding sampleAt exemplarAt
   row-entry-1 false h = rw h
   row-entry-1 true h = rw h
 
-  pub row-entry-2 : (labelled : Bool) (r : TextListRead) {row : Row} {q : ℕ} {why : Refusal} → rowAt s p ≡ got row q
-      → r ≡ labelsRead labelled s q → r ≡ list.Fault why → Refused why ≡ answerEntry (entryAt (rowsKind labelled) s p)
+  pub row-entry-2 : (labelled : Bool) (r : StringListRead) {row : Row} {q : ℕ} {why : Refusal} → rowAt s p ≡ got row q
+      → r ≡ labelsRead labelled s q → r ≡ list.Fault why → Refused why ≡ answerEntry (entryAt (rowsType labelled) s p)
   unfolding exemplarAt
   row-entry-2 false r h e f = never cc
-  row-entry-2 true r {q = q} h e f = rw (h, list-fault (textListAt s q) r e f)
+  row-entry-2 true r {q = q} h e f = rw (h, list-fault (stringListAt s q) r e f)
 
   exemplar-all : {q v n first next : ℕ} {id : SeriesId} {time : Timestamp}
       → rowAt s p ≡ got (record { id = id .0; time = time .0; bits = v }) q
-      → (l : Texts) × (textListAt s q ≡ got l next) × (length (l .strings) ≡ n) × (l .first ≡ first)
+      → (l : StringList) × (stringListAt s q ≡ got l next) × (length (l .strings) ≡ n) × (l .first ≡ first)
       → Found (record {
-        kind = 4;
+        tag = 4;
         id = id;
         time = time;
         max = timestamp (pos 0);
@@ -92,12 +92,12 @@ module _ (s : List ℕ) (p : ℕ) where
   unfolding exemplarAt
   exemplar-all h (l, i, j, k) = rw (h, i, ← j, ← k)
 
-  pub row-entry-all : (labelled : Bool) (r : TextListRead)
-      {q kind v n first next : ℕ} {id : SeriesId} {time : Timestamp}
+  pub row-entry-all : (labelled : Bool) (r : StringListRead)
+      {q tag v n first next : ℕ} {id : SeriesId} {time : Timestamp}
       → rowAt s p ≡ got (record { id = id .0; time = time .0; bits = v }) q
-      → r ≡ labelsRead labelled s q → r ≡ list.Got n first next → kind ≡ typeByte (rowsKind labelled)
+      → r ≡ labelsRead labelled s q → r ≡ list.Got n first next → tag ≡ typeByte (rowsType labelled)
       → Found (record {
-        kind = kind;
+        tag = tag;
         id = id;
         time = time;
         max = timestamp (pos 0);
@@ -106,11 +106,11 @@ module _ (s : List ℕ) (p : ℕ) where
         first = offset first;
         next = offset next;
       })
-      ≡ answerEntry (entryAt (rowsKind labelled) s p)
+      ≡ answerEntry (entryAt (rowsType labelled) s p)
   unfolding sampleAt
   row-entry-all false r {q} {n = n} {first} {next} h e f k =
       let a : n ≡ 0 = cc in
       let b : first ≡ q = cc in
       let c : next ≡ q = cc in
       rw (h, k, a, b, c)
-  row-entry-all true r {q} h e f k = rw k (exemplar-all h (list-got (textListAt s q) r e f))
+  row-entry-all true r {q} h e f k = rw k (exemplar-all h (list-got (stringListAt s q) r e f))

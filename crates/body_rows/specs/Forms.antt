@@ -11,11 +11,11 @@ use Rattle.wal_types.specs.declared.Timestamp.{Timestamp}
 use Rattle.wal_types.specs.Terms.{seriesId, timestamp}
 use Rattle.wal_types.specs.Deltas.{plus, toBits, fromBits}
 use Rattle.big_endian.specs.Fixed.{readBe8}
-use Rattle.body_format.specs.Fields.{Field, got, fault, textListAt}
+use Rattle.body_format.specs.Fields.{Field, got, fault, stringListAt}
 use Rattle.body_format.specs.Entries.{Row}
-use Rattle.body_fields.specs.declared.TextListRead.{TextListRead}
-use Rattle.body_fields.specs.declared.TextListRead.the-variants as list
-use Rattle.body_fields.specs.Readings.{textListRead}
+use Rattle.body_fields.specs.declared.StringListRead.{StringListRead}
+use Rattle.body_fields.specs.declared.StringListRead.the-variants as list
+use Rattle.body_fields.specs.Readings.{stringListRead}
 use Rattle.body_rows.specs.declared.RowRead.{RowRead}
 use Rattle.body_rows.specs.declared.RowRead.the-variants as row
 
@@ -38,9 +38,9 @@ unfoldable pub isShortRow : List ℕ → ℕ → Bool
 isShortRow s p = leb 10 (length s - p) && (ltb (getD s p 0) 128 && ltb (getD s (p + 1) 0) 128)
 
 -- the labels behind a row; samples have none
-abbrev pub labelsRead : Bool → List ℕ → ℕ → TextListRead
+abbrev pub labelsRead : Bool → List ℕ → ℕ → StringListRead
 labelsRead false s p = list.Got 0 p p
-labelsRead true s p = textListRead (textListAt s p)
+labelsRead true s p = stringListRead (stringListAt s p)
 
 -- where the row for place p is: place 1 is the first row's
 abbrev pub rowPlace : ℕ → ℕ

@@ -3,9 +3,9 @@
 use mathlib.Core.Path.{_≡_, refl}
 use mathlib.Core.Bool.{Bool, true, false}
 use Rattle.body_format.specs.Entries.{hasRows}
-use Rattle.body_rows.specs.Rows.{rowsKind}
+use Rattle.body_rows.specs.Rows.{rowsType}
 
 -- with labels and without, rows are rows
-pub rows-rows : (labelled : Bool) → hasRows (rowsKind labelled) ≡ true
+pub rows-rows : (labelled : Bool) → hasRows (rowsType labelled) ≡ true
 rows-rows false = refl
 rows-rows true = refl

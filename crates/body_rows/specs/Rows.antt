@@ -4,14 +4,14 @@
 use mathlib.Core.Bool.{Bool, true, false}
 use Prim.Native.Nat.{ℕ}
 use Rattle.body_format.specs.Fields.{Field, got, fault}
-use Rattle.body_format.specs.Entries.{Kind, samples, exemplars}
+use Rattle.body_format.specs.Entries.{BodyType, samples, exemplars}
 use Rattle.body_fields.specs.declared.Place.{Place}
 use Rattle.body_fields.specs.declared.Place.the-variants.{At, Fault}
 
 -- rows with labels are exemplars, rows without are samples
-abbrev pub rowsKind : Bool → Kind
-rowsKind false = samples
-rowsKind true = exemplars
+abbrev pub rowsType : Bool → BodyType
+rowsType false = samples
+rowsType true = exemplars
 
 -- the place that a field's value is
 abbrev pub placeRead : Field ℕ → Place

@@ -2,15 +2,17 @@
 // walked over to its end: counting needs no more.
 use body_fields::NumberRead;
 use body_fields::Place;
-use body_fields::TextListRead;
+use body_fields::StringListRead;
 use body_fields::ends::fixed_end;
 use body_fields::ends::list_end;
 use body_fields::ends::uvarint_end;
 use body_fields::fixed_at;
-use body_fields::text_list_at;
+use body_fields::string_list_at;
 use body_fields::uvarint_at;
+use body_format::EXEMPLARS;
 use body_format::EntryAnswer;
 use body_format::EntryView;
+use body_format::SAMPLES;
 use wal_types::Offset;
 use wal_types::Refusal;
 use wal_types::SeriesId;
@@ -25,7 +27,7 @@ ghost use lib.ListN.{length};
 ghost use Rattle.body_format.specs.Entries.{known, typeByte, firstAt, rowAt, entryAt};
 ghost use Rattle.body_format.specs.Reading.{answerEntry, entryKnown};
 ghost use Rattle.body_fields.specs.Ends.{endOf};
-ghost use Rattle.body_rows.specs.Rows.{rowsKind, placeRead};
+ghost use Rattle.body_rows.specs.Rows.{rowsType, placeRead};
 ghost use Rattle.body_rows.specs.Forms.{BaseIn, rowRead, rowGot, isShortRow, labelsRead, rowPlace};
 
 // The first place behind the first id and the first timestamp.
@@ -165,13 +167,13 @@ fn row_end(body: &[u8], at: usize) -> Place
 // ---- a row, and its labels
 
 // The labels behind a row; samples have none.
-fn labels_at(body: &[u8], labelled: bool, at: usize) -> TextListRead
+fn labels_at(body: &[u8], labelled: bool, at: usize) -> StringListRead
     ensures { λ r. ⌜ r ≡ labelsRead labelled (now (body .entry)) at ⌝ }
 {
     if labelled {
-        text_list_at(body, at)
+        string_list_at(body, at)
     } else {
-        TextListRead::Got {
+        StringListRead::Got {
             count: 0,
             first: at,
             next: at,
@@ -180,9 +182,9 @@ fn labels_at(body: &[u8], labelled: bool, at: usize) -> TextListRead
 }
 
 fn row_type(labelled: bool) -> u8
-    ensures { λ r. ⌜ r ≡ typeByte (rowsKind labelled) ⌝ }
+    ensures { λ r. ⌜ r ≡ typeByte (rowsType labelled) ⌝ }
 {
-    if labelled { 4 } else { 2 }
+    if labelled { EXEMPLARS } else { SAMPLES }
 }
 
 // The entry at a place within the rows.
@@ -194,7 +196,7 @@ fn row_entry_at(
     at: usize,
 ) -> EntryAnswer
     requires { ⌜ BaseIn (now body) «first_id» «first_time» ⌝ }
-    ensures { λ r. ⌜ r ≡ answerEntry (entryAt (rowsKind labelled) (now (body .entry)) at) ⌝ }
+    ensures { λ r. ⌜ r ≡ answerEntry (entryAt (rowsType labelled) (now (body .entry)) at) ⌝ }
 {
     match row_at(body, first_id, first_time, at) {
         RowRead::Got {
@@ -203,8 +205,8 @@ fn row_entry_at(
             bits,
             next: labels,
         } => match labels_at(body, labelled, labels) {
-            TextListRead::Got { count, first, next } => EntryAnswer::Found(EntryView {
-                kind: row_type(labelled),
+            StringListRead::Got { count, first, next } => EntryAnswer::Found(EntryView {
+                tag: row_type(labelled),
                 id,
                 time,
                 max: Timestamp(0),
@@ -213,7 +215,7 @@ fn row_entry_at(
                 first: Offset(first),
                 next: Offset(next),
             }),
-            TextListRead::Fault(why) => EntryAnswer::Refused(why),
+            StringListRead::Fault(why) => EntryAnswer::Refused(why),
         },
         RowRead::Fault(why) => EntryAnswer::Refused(why),
     }
@@ -221,7 +223,7 @@ fn row_entry_at(
 
 // The place after the entry at a place within the rows.
 pub fn row_entry_end(body: &[u8], labelled: bool, at: usize) -> Place
-    ensures { λ r. ⌜ r ≡ endOf (entryAt (rowsKind labelled) (now (body .entry)) at) ⌝ }
+    ensures { λ r. ⌜ r ≡ endOf (entryAt (rowsType labelled) (now (body .entry)) at) ⌝ }
 {
     let labels = row_end(body, at);
     if labelled {
@@ -255,7 +257,7 @@ pub fn rows_begin(body: &[u8]) -> Place
 // one's answer apart again was slower (docs/DECISIONS.md, 34).
 fn no_row(body: &[u8], at: usize) -> EntryAnswer
     requires { ⌜ length (now body) < 17 ⌝ }
-    ensures { λ r. ⌜ ((labelled : Bool) → r ≡ entryKnown (known (rowsKind labelled)) (now (body .entry)) at) ⌝ }
+    ensures { λ r. ⌜ ((labelled : Bool) → r ≡ entryKnown (known (rowsType labelled)) (now (body .entry)) at) ⌝ }
 {
     if at != 1 {
         return EntryAnswer::Refused(Refusal::BadPlace);
@@ -282,7 +284,7 @@ fn row_place(at: usize) -> usize
 // The row at a place of a body, with its labels, or the plain end at the body's end. Once there are
 // 17 bytes, nothing asks again whether the first id and the first timestamp are there.
 pub fn row_entry(body: &[u8], labelled: bool, at: usize) -> EntryAnswer
-    ensures { λ r. ⌜ r ≡ entryKnown (known (rowsKind labelled)) (now (body .entry)) at ⌝ }
+    ensures { λ r. ⌜ r ≡ entryKnown (known (rowsType labelled)) (now (body .entry)) at ⌝ }
 {
     if body.len() < ROWS {
         return no_row(body, at);

@@ -11,7 +11,7 @@ ghost use lib.Bits.{bitXor};
 ghost use Rattle.crc32c_format.specs.Crc.{bitSteps, register, crc32c};
 ghost use Rattle.crc32c_format.specs.Bytes.{littleEndian};
 ghost use Rattle.crc32c_format.specs.Table.{nibbleTable};
-ghost use Rattle.crc32c_format.specs.Lent.{lookUp2, lookUp4, tableStep1, tableStep4, tableStep8, steps, eightsEnd, foursEnd, tableRegister, sumBy};
+ghost use Rattle.crc32c_format.specs.TableSum.{lookUp2, lookUp4, tableStep1, tableStep4, tableStep8, steps, eightsEnd, foursEnd, tableRegister, sumBy};
 ghost use Rattle.crc32c_format.specs.Method.Fold.{onto290, onto130, taps, Folded, Slid, Cleared, Rest};
 
 // Lent where the caller lends none: too short to be used.

@@ -11,7 +11,7 @@ use lib.ListN.{length, getD, take, drop}
 use lib.Seq.{take-length}
 use Rattle.crc32c_format.specs.Crc.{register, crc32c}
 use Rattle.crc32c_format.specs.Table.{sliceTable}
-use Rattle.crc32c_format.specs.Lent.{tableRegister, sumBy}
+use Rattle.crc32c_format.specs.TableSum.{tableRegister, sumBy}
 use Rattle.crc32c_format.specs.Method.Steps as steps
 use Rattle.crc32c_format.specs.Method.Lists.{lt-or-ge}
 use Rattle.crc32c_format.specs.Method.Tables.{length-tableOf}

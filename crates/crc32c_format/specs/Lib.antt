@@ -1,7 +1,7 @@
 pub mod Crc
 pub mod Bytes
 pub mod Table
-pub mod Lent
+pub mod TableSum
 pub mod Vectors
 pub mod Laws
 pub mod Method

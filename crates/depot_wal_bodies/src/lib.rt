@@ -5,33 +5,33 @@ ghost use mathlib.Core.Path.{_≡_};
 ghost use Rattle.body_format.specs.Reading.{checkBody, readEntry, readString};
 ghost use Rattle.body_format.specs.Calls.{starter, builder, addSeries, addSample, addTombstone, addExemplar, addMetadata};
 ghost use Rattle.body_builder.specs.Answers.{addedOf};
-ghost use Rattle.c_answers.specs.Bodies.{addedCode, addedOut, checkCode, checkOut, entryCode, entryOut, stringCode, stringOut};
+ghost use Rattle.depot_wal_results.specs.Bodies.{addedCode, addedOut, checkCode, checkOut, entryCode, entryOut, stringCode, stringOut};
 use body_builder::Body;
-use c_answers::tell_added;
-use c_answers::tell_check;
-use c_answers::tell_entry;
-use c_answers::tell_string;
+use depot_wal_results::build_result;
+use depot_wal_results::check_result;
+use depot_wal_results::entry_result;
+use depot_wal_results::string_result;
 use wal_types::Offset;
 use wal_types::SeriesId;
 use wal_types::Timestamp;
 
 // Starts a body of a type.
 #[no_mangle]
-pub extern "C" fn depot_wal_body_start(buffer: &mut [u8], kind: u8, out: &mut [u64; 2]) -> u32
+pub extern "C" fn depot_wal_body_start(buffer: &mut [u8], tag: u8, out: &mut [u64; 2]) -> u32
     ensures { λ r. ⌜
-        (r ≡ addedCode (addedOf kind (starter (now (buffer .entry)) kind .outcome)))
-        × (now (out .exit) ≡ addedOut 0 (addedOf kind (starter (now (buffer .entry)) kind .outcome)))
-        × (now (buffer .exit) ≡ starter (now (buffer .entry)) kind .buffer) ⌝ }
+        (r ≡ addedCode (addedOf tag (starter (now (buffer .entry)) tag .outcome)))
+        × (now (out .exit) ≡ addedOut 0 (addedOf tag (starter (now (buffer .entry)) tag .outcome)))
+        × (now (buffer .exit) ≡ starter (now (buffer .entry)) tag .buffer) ⌝ }
 {
-    let answer = Body::start(buffer, kind);
-    tell_added(answer, 0, out)
+    let answer = Body::start(buffer, tag);
+    build_result(answer, 0, out)
 }
 
 // Adds a series: its id, and its labels as one slice of bytes and one of lengths.
 #[no_mangle]
 pub extern "C" fn depot_wal_add_series(
     buffer: &mut [u8],
-    kind: u8,
+    tag: u8,
     used: usize,
     id: u64,
     strings: &[u8],
@@ -39,23 +39,23 @@ pub extern "C" fn depot_wal_add_series(
     out: &mut [u64; 2],
 ) -> u32
     ensures { λ r. ⌜
-        (r ≡ addedCode (addedOf kind (builder (now (buffer .entry)) kind used (addSeries id (now (strings .entry)) (now (lengths .entry))) .outcome)))
-        × (now (out .exit) ≡ addedOut used (addedOf kind (builder (now (buffer .entry)) kind used (addSeries id (now (strings .entry)) (now (lengths .entry))) .outcome)))
-        × (now (buffer .exit) ≡ builder (now (buffer .entry)) kind used (addSeries id (now (strings .entry)) (now (lengths .entry))) .buffer) ⌝ }
+        (r ≡ addedCode (addedOf tag (builder (now (buffer .entry)) tag used (addSeries id (now (strings .entry)) (now (lengths .entry))) .outcome)))
+        × (now (out .exit) ≡ addedOut used (addedOf tag (builder (now (buffer .entry)) tag used (addSeries id (now (strings .entry)) (now (lengths .entry))) .outcome)))
+        × (now (buffer .exit) ≡ builder (now (buffer .entry)) tag used (addSeries id (now (strings .entry)) (now (lengths .entry))) .buffer) ⌝ }
 {
     let state = Body {
-        kind,
+        tag,
         used: Offset(used),
     };
     let answer = state.add_series(buffer, SeriesId(id), strings, lengths);
-    tell_added(answer, used, out)
+    build_result(answer, used, out)
 }
 
 // Adds a sample.
 #[no_mangle]
 pub extern "C" fn depot_wal_add_sample(
     buffer: &mut [u8],
-    kind: u8,
+    tag: u8,
     used: usize,
     id: u64,
     time: i64,
@@ -63,23 +63,23 @@ pub extern "C" fn depot_wal_add_sample(
     out: &mut [u64; 2],
 ) -> u32
     ensures { λ r. ⌜
-        (r ≡ addedCode (addedOf kind (builder (now (buffer .entry)) kind used (addSample id time bits) .outcome)))
-        × (now (out .exit) ≡ addedOut used (addedOf kind (builder (now (buffer .entry)) kind used (addSample id time bits) .outcome)))
-        × (now (buffer .exit) ≡ builder (now (buffer .entry)) kind used (addSample id time bits) .buffer) ⌝ }
+        (r ≡ addedCode (addedOf tag (builder (now (buffer .entry)) tag used (addSample id time bits) .outcome)))
+        × (now (out .exit) ≡ addedOut used (addedOf tag (builder (now (buffer .entry)) tag used (addSample id time bits) .outcome)))
+        × (now (buffer .exit) ≡ builder (now (buffer .entry)) tag used (addSample id time bits) .buffer) ⌝ }
 {
     let state = Body {
-        kind,
+        tag,
         used: Offset(used),
     };
     let answer = state.add_sample(buffer, SeriesId(id), Timestamp(time), bits);
-    tell_added(answer, used, out)
+    build_result(answer, used, out)
 }
 
 // Adds a tombstone.
 #[no_mangle]
 pub extern "C" fn depot_wal_add_tombstone(
     buffer: &mut [u8],
-    kind: u8,
+    tag: u8,
     used: usize,
     id: u64,
     min: i64,
@@ -87,23 +87,23 @@ pub extern "C" fn depot_wal_add_tombstone(
     out: &mut [u64; 2],
 ) -> u32
     ensures { λ r. ⌜
-        (r ≡ addedCode (addedOf kind (builder (now (buffer .entry)) kind used (addTombstone id min max) .outcome)))
-        × (now (out .exit) ≡ addedOut used (addedOf kind (builder (now (buffer .entry)) kind used (addTombstone id min max) .outcome)))
-        × (now (buffer .exit) ≡ builder (now (buffer .entry)) kind used (addTombstone id min max) .buffer) ⌝ }
+        (r ≡ addedCode (addedOf tag (builder (now (buffer .entry)) tag used (addTombstone id min max) .outcome)))
+        × (now (out .exit) ≡ addedOut used (addedOf tag (builder (now (buffer .entry)) tag used (addTombstone id min max) .outcome)))
+        × (now (buffer .exit) ≡ builder (now (buffer .entry)) tag used (addTombstone id min max) .buffer) ⌝ }
 {
     let state = Body {
-        kind,
+        tag,
         used: Offset(used),
     };
     let answer = state.add_tombstone(buffer, SeriesId(id), Timestamp(min), Timestamp(max));
-    tell_added(answer, used, out)
+    build_result(answer, used, out)
 }
 
 // Adds an exemplar: a sample's row, and its labels.
 #[no_mangle]
 pub extern "C" fn depot_wal_add_exemplar(
     buffer: &mut [u8],
-    kind: u8,
+    tag: u8,
     used: usize,
     id: u64,
     time: i64,
@@ -113,12 +113,12 @@ pub extern "C" fn depot_wal_add_exemplar(
     out: &mut [u64; 2],
 ) -> u32
     ensures { λ r. ⌜
-        (r ≡ addedCode (addedOf kind (builder (now (buffer .entry)) kind used (addExemplar id time bits (now (strings .entry)) (now (lengths .entry))) .outcome)))
-        × (now (out .exit) ≡ addedOut used (addedOf kind (builder (now (buffer .entry)) kind used (addExemplar id time bits (now (strings .entry)) (now (lengths .entry))) .outcome)))
-        × (now (buffer .exit) ≡ builder (now (buffer .entry)) kind used (addExemplar id time bits (now (strings .entry)) (now (lengths .entry))) .buffer) ⌝ }
+        (r ≡ addedCode (addedOf tag (builder (now (buffer .entry)) tag used (addExemplar id time bits (now (strings .entry)) (now (lengths .entry))) .outcome)))
+        × (now (out .exit) ≡ addedOut used (addedOf tag (builder (now (buffer .entry)) tag used (addExemplar id time bits (now (strings .entry)) (now (lengths .entry))) .outcome)))
+        × (now (buffer .exit) ≡ builder (now (buffer .entry)) tag used (addExemplar id time bits (now (strings .entry)) (now (lengths .entry))) .buffer) ⌝ }
 {
     let state = Body {
-        kind,
+        tag,
         used: Offset(used),
     };
     let answer = state.add_exemplar(
@@ -129,14 +129,14 @@ pub extern "C" fn depot_wal_add_exemplar(
         strings,
         lengths,
     );
-    tell_added(answer, used, out)
+    build_result(answer, used, out)
 }
 
 // Adds the metadata of a series: its metric type, and names and texts.
 #[no_mangle]
 pub extern "C" fn depot_wal_add_metadata(
     buffer: &mut [u8],
-    kind: u8,
+    tag: u8,
     used: usize,
     id: u64,
     metric_type: u8,
@@ -145,16 +145,16 @@ pub extern "C" fn depot_wal_add_metadata(
     out: &mut [u64; 2],
 ) -> u32
     ensures { λ r. ⌜
-        (r ≡ addedCode (addedOf kind (builder (now (buffer .entry)) kind used (addMetadata id «metric_type» (now (strings .entry)) (now (lengths .entry))) .outcome)))
-        × (now (out .exit) ≡ addedOut used (addedOf kind (builder (now (buffer .entry)) kind used (addMetadata id «metric_type» (now (strings .entry)) (now (lengths .entry))) .outcome)))
-        × (now (buffer .exit) ≡ builder (now (buffer .entry)) kind used (addMetadata id «metric_type» (now (strings .entry)) (now (lengths .entry))) .buffer) ⌝ }
+        (r ≡ addedCode (addedOf tag (builder (now (buffer .entry)) tag used (addMetadata id «metric_type» (now (strings .entry)) (now (lengths .entry))) .outcome)))
+        × (now (out .exit) ≡ addedOut used (addedOf tag (builder (now (buffer .entry)) tag used (addMetadata id «metric_type» (now (strings .entry)) (now (lengths .entry))) .outcome)))
+        × (now (buffer .exit) ≡ builder (now (buffer .entry)) tag used (addMetadata id «metric_type» (now (strings .entry)) (now (lengths .entry))) .buffer) ⌝ }
 {
     let state = Body {
-        kind,
+        tag,
         used: Offset(used),
     };
     let answer = state.add_metadata(buffer, SeriesId(id), metric_type, strings, lengths);
-    tell_added(answer, used, out)
+    build_result(answer, used, out)
 }
 
 // Checks a body: how many entries it has, or its first fault.
@@ -163,7 +163,7 @@ pub extern "C" fn depot_wal_body_check(bytes: &[u8], out: &mut [u64; 1]) -> u32
     ensures { λ r. ⌜ (r ≡ checkCode (checkBody (now (bytes .entry)))) × (now (out .exit) ≡ checkOut (checkBody (now (bytes .entry)))) ⌝ }
 {
     let answer = body_reader::check(bytes);
-    tell_check(answer, out)
+    check_result(answer, out)
 }
 
 // Reads the entry at a place.
@@ -172,7 +172,7 @@ pub extern "C" fn depot_wal_entry_at(bytes: &[u8], place: usize, out: &mut [u64;
     ensures { λ r. ⌜ (r ≡ entryCode (readEntry (now (bytes .entry)) place)) × (now (out .exit) ≡ entryOut (readEntry (now (bytes .entry)) place)) ⌝ }
 {
     let answer = body_reader::entry_at(bytes, Offset(place));
-    tell_entry(answer, out)
+    entry_result(answer, out)
 }
 
 // Reads the string at a place: where its bytes start, and how many they are.
@@ -181,5 +181,5 @@ pub extern "C" fn depot_wal_string_at(bytes: &[u8], place: usize, out: &mut [u64
     ensures { λ r. ⌜ (r ≡ stringCode (readString (now (bytes .entry)) place)) × (now (out .exit) ≡ stringOut (readString (now (bytes .entry)) place)) ⌝ }
 {
     let answer = body_reader::string_at(bytes, Offset(place));
-    tell_string(answer, out)
+    string_result(answer, out)
 }

@@ -2,7 +2,7 @@
 ghost use mathlib.Core.Path.{_≡_};
 ghost use Rattle.crc32c_format.specs.Crc.{crc32c};
 ghost use Rattle.crc32c_format.specs.Table.{sliceTable};
-ghost use Rattle.crc32c_format.specs.Lent.{sumBy};
+ghost use Rattle.crc32c_format.specs.TableSum.{sumBy};
 
 // CRC-32C of the bytes.
 #[no_mangle]

@@ -1,15 +1,15 @@
 // Reading and writing one segment.
 ghost use mathlib.Core.Path.{_≡_};
 ghost use Rattle.segment_format.specs.Calls.{reader, writer};
-ghost use Rattle.segment_format.specs.Sums.{crcSum, lentSum};
-ghost use Rattle.c_answers.specs.Segments.{readCode, readOut, writeCode, writeOut};
-use c_answers::tell_read;
-use c_answers::tell_write;
+ghost use Rattle.segment_format.specs.Sums.{crcSum, tableSum};
+ghost use Rattle.depot_wal_results.specs.Segments.{readCode, readOut, writeCode, writeOut};
+use depot_wal_results::read_result;
+use depot_wal_results::write_result;
 use wal_types::Offset;
 
 // A read, and its answer passed on, for the calls with a table and without. Here it ends in numbers: an answer handed to another function
 // would be stored in parts and loaded whole, which stalls. `&x[0..]` hands a slice on by its address and length.
-fn read_and_tell(
+fn read_to_out(
     table: &[u32],
     segment: &[u8],
     place: usize,
@@ -17,16 +17,16 @@ fn read_and_tell(
     out: &mut [u64; 3],
 ) -> u32
     ensures { λ r. ⌜
-        (r ≡ readCode (reader (lentSum (now (table .entry))) (now (segment .entry)) place (now (buffer .entry)) .answer))
-        × (now (out .exit) ≡ readOut (reader (lentSum (now (table .entry))) (now (segment .entry)) place (now (buffer .entry)) .answer))
-        × (now (buffer .exit) ≡ reader (lentSum (now (table .entry))) (now (segment .entry)) place (now (buffer .entry)) .buffer) ⌝ }
+        (r ≡ readCode (reader (tableSum (now (table .entry))) (now (segment .entry)) place (now (buffer .entry)) .answer))
+        × (now (out .exit) ≡ readOut (reader (tableSum (now (table .entry))) (now (segment .entry)) place (now (buffer .entry)) .answer))
+        × (now (buffer .exit) ≡ reader (tableSum (now (table .entry))) (now (segment .entry)) place (now (buffer .entry)) .buffer) ⌝ }
 {
     let answer = segment_reader::read_with_table(&table[0..], &segment[0..], Offset(place), buffer);
-    tell_read(answer, out)
+    read_result(answer, out)
 }
 
 // A write, likewise.
-fn write_and_tell(
+fn write_to_out(
     table: &[u32],
     segment: &mut [u8],
     place: usize,
@@ -34,9 +34,9 @@ fn write_and_tell(
     out: &mut [u64; 2],
 ) -> u32
     ensures { λ r. ⌜
-        (r ≡ writeCode (writer (lentSum (now (table .entry))) (now (segment .entry)) place (now («record» .entry)) .answer))
-        × (now (out .exit) ≡ writeOut place (writer (lentSum (now (table .entry))) (now (segment .entry)) place (now («record» .entry)) .answer))
-        × (now (segment .exit) ≡ writer (lentSum (now (table .entry))) (now (segment .entry)) place (now («record» .entry)) .slice) ⌝ }
+        (r ≡ writeCode (writer (tableSum (now (table .entry))) (now (segment .entry)) place (now («record» .entry)) .answer))
+        × (now (out .exit) ≡ writeOut place (writer (tableSum (now (table .entry))) (now (segment .entry)) place (now («record» .entry)) .answer))
+        × (now (segment .exit) ≡ writer (tableSum (now (table .entry))) (now (segment .entry)) place (now («record» .entry)) .slice) ⌝ }
 {
     let answer = segment_writer::write_with_table(
         &table[0..],
@@ -44,7 +44,7 @@ fn write_and_tell(
         Offset(place),
         &record[0..],
     );
-    tell_write(answer, place, out)
+    write_result(answer, place, out)
 }
 
 // Writes a record at a place.
@@ -60,7 +60,7 @@ pub extern "C" fn depot_wal_write(
         × (now (out .exit) ≡ writeOut place (writer crcSum (now (segment .entry)) place (now («record» .entry)) .answer))
         × (now (segment .exit) ≡ writer crcSum (now (segment .entry)) place (now («record» .entry)) .slice) ⌝ }
 {
-    write_and_tell(&crc32c::NO_TABLE, segment, place, record, out)
+    write_to_out(&crc32c::NO_TABLE, segment, place, record, out)
 }
 
 // Reads the record at a place into the buffer.
@@ -76,7 +76,7 @@ pub extern "C" fn depot_wal_read(
         × (now (out .exit) ≡ readOut (reader crcSum (now (segment .entry)) place (now (buffer .entry)) .answer))
         × (now (buffer .exit) ≡ reader crcSum (now (segment .entry)) place (now (buffer .entry)) .buffer) ⌝ }
 {
-    read_and_tell(&crc32c::NO_TABLE, segment, place, buffer, out)
+    read_to_out(&crc32c::NO_TABLE, segment, place, buffer, out)
 }
 
 // `depot_wal_write` with the checksum's table lent.
@@ -89,11 +89,11 @@ pub extern "C" fn depot_wal_write_with_table(
     out: &mut [u64; 2],
 ) -> u32
     ensures { λ r. ⌜
-        (r ≡ writeCode (writer (lentSum (now (table .entry))) (now (segment .entry)) place (now («record» .entry)) .answer))
-        × (now (out .exit) ≡ writeOut place (writer (lentSum (now (table .entry))) (now (segment .entry)) place (now («record» .entry)) .answer))
-        × (now (segment .exit) ≡ writer (lentSum (now (table .entry))) (now (segment .entry)) place (now («record» .entry)) .slice) ⌝ }
+        (r ≡ writeCode (writer (tableSum (now (table .entry))) (now (segment .entry)) place (now («record» .entry)) .answer))
+        × (now (out .exit) ≡ writeOut place (writer (tableSum (now (table .entry))) (now (segment .entry)) place (now («record» .entry)) .answer))
+        × (now (segment .exit) ≡ writer (tableSum (now (table .entry))) (now (segment .entry)) place (now («record» .entry)) .slice) ⌝ }
 {
-    write_and_tell(table, segment, place, record, out)
+    write_to_out(table, segment, place, record, out)
 }
 
 // `depot_wal_read` with the checksum's table lent.
@@ -106,9 +106,9 @@ pub extern "C" fn depot_wal_read_with_table(
     out: &mut [u64; 3],
 ) -> u32
     ensures { λ r. ⌜
-        (r ≡ readCode (reader (lentSum (now (table .entry))) (now (segment .entry)) place (now (buffer .entry)) .answer))
-        × (now (out .exit) ≡ readOut (reader (lentSum (now (table .entry))) (now (segment .entry)) place (now (buffer .entry)) .answer))
-        × (now (buffer .exit) ≡ reader (lentSum (now (table .entry))) (now (segment .entry)) place (now (buffer .entry)) .buffer) ⌝ }
+        (r ≡ readCode (reader (tableSum (now (table .entry))) (now (segment .entry)) place (now (buffer .entry)) .answer))
+        × (now (out .exit) ≡ readOut (reader (tableSum (now (table .entry))) (now (segment .entry)) place (now (buffer .entry)) .answer))
+        × (now (buffer .exit) ≡ reader (tableSum (now (table .entry))) (now (segment .entry)) place (now (buffer .entry)) .buffer) ⌝ }
 {
-    read_and_tell(table, segment, place, buffer, out)
+    read_to_out(table, segment, place, buffer, out)
 }

@@ -6,7 +6,7 @@ ghost use mathlib.Core.Path.{_≡_};
 ghost use Prim.Native.Nat.{_+_, _≤_};
 ghost use lib.ListN.{length, drop};
 ghost use lib.Seq.{sets};
-ghost use Rattle.copying.specs.Put.{putAt, putEnd};
+ghost use Rattle.byte_copy.specs.Put.{putAt, putEnd};
 ghost use Rattle.uvarint.specs.Uvarint.{uvarint, readUvarint};
 
 // What reading a uvarint finds. Of a refusal the place is the number's first byte, which is where the reading began.

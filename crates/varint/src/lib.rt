@@ -3,7 +3,7 @@
 ghost use mathlib.Core.Path.{_≡_};
 ghost use Prim.Native.Nat.{_≤_};
 ghost use lib.ListN.{length, drop};
-ghost use Rattle.copying.specs.Put.{putAt, putEnd};
+ghost use Rattle.byte_copy.specs.Put.{putAt, putEnd};
 ghost use Rattle.varint.specs.Varint.{zigzag, unzigzag, varint, readVarint};
 use uvarint::UvarintRead;
 use uvarint::get_uvarint;

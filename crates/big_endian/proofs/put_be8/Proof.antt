@@ -5,10 +5,10 @@ use Prim.Native.Nat.{ℕ, _+_, _/_, _^_, _≤_}
 use mathlib.Core.Path.{_≡_, sym, ap₂, _∙_}
 use mathlib.Core.List.{List}
 use lib.ListN.{length}
-use Rattle.copying.specs.PutLaws.{put-fits, put-not, end-fits, end-not}
-use Rattle.copying.specs.CopiedLaws.{sets-append}
+use Rattle.byte_copy.specs.PutLaws.{put-fits, put-not, end-fits, end-not}
+use Rattle.byte_copy.specs.CopiedLaws.{sets-append}
 use lib.Seq.{sets}
-use Rattle.copying.specs.Put.{putAt, putEnd}
+use Rattle.byte_copy.specs.Put.{putAt, putEnd}
 use Rattle.big_endian.specs.Fixed.{be4, be8}
 use Rattle.big_endian.specs.FixedLaws.{length-be8}
 use Rattle.big_endian.proofs.put_be8.Statement.{statement}

@@ -14,8 +14,8 @@ use Rattle.wal_types.specs.DeltaLaws.{to-lt}
 use Rattle.big_endian.specs.Fixed.{be8, readBe8}
 use Rattle.big_endian.specs.FixedLaws.{length-be8, read-be8, read-be8-fits}
 use Rattle.body_format.specs.Fields.{got}
-use Rattle.body_format.specs.Entries.{Kind, typeByte, hasRows, Entry, seriesEntry, sampleEntry, tombstoneEntry, exemplarEntry, metadataEntry, kindFor, Placed, entryAt, entriesFrom, firstAt, entries}
-use Rattle.body_format.specs.Building.{textListBytes, rowBytes, entryBytes}
+use Rattle.body_format.specs.Entries.{BodyType, typeByte, hasRows, Entry, seriesEntry, sampleEntry, tombstoneEntry, exemplarEntry, metadataEntry, bodyTypeFor, Placed, entryAt, entriesFrom, firstAt, entries}
+use Rattle.body_format.specs.Building.{stringListBytes, rowBytes, entryBytes}
 use Rattle.body_format.specs.Laws.Fields.{place-same, Stands, stands-left, stands-right, stands-end}
 use Rattle.body_format.specs.Laws.Bounds.{of-got}
 use Rattle.body_format.specs.Laws.Kept.{be8-kept}
@@ -24,13 +24,13 @@ use Rattle.body_format.specs.Laws.Strings.{row-first, row-later, length-
 use Rattle.body_format.specs.Laws.Entries.{Fits, Firsts, read-entry}
 
 -- s is a body of type k with the entries es. Behind the type byte of a body of rows stand a first id and a first timestamp of 64 bits.
-pub record Body (k : Kind) (s : List ℕ) (es : List Entry) : Type 0 where
+pub record Body (k : BodyType) (s : List ℕ) (es : List Entry) : Type 0 where
   pub begins : Stands s 0 (typeByte k ∷ [])
   pub reads : entries k s ≡ got es (length s)
   pub firsts : hasRows k ≡ true → (length s ≡ 1 → ⊥) → (17 ≤ length s) × (readBe8 (drop 1 s) < 2 ^ 64) × (readBe8 (drop 9 s) < 2 ^ 64)
 
 -- every body of bytes that can be read is one
-pub readable : (k : Kind) (s : List ℕ) (es : List Entry) (p : ℕ) → Stands s 0 (typeByte k ∷ []) → ((i : ℕ) → getD s i 0 < 256)
+pub readable : (k : BodyType) (s : List ℕ) (es : List Entry) (p : ℕ) → Stands s 0 (typeByte k ∷ []) → ((i : ℕ) → getD s i 0 < 256)
     → entries k s ≡ got es p → Body k s es
 readable k s es p st bytes e =
     let w = of-got _ (entries k s) es p (entries-whole k s (omega (arith, ap length (st .1)))) e in
@@ -44,7 +44,7 @@ readable k s es p st bytes e =
     fits n = read-be8-fits (drop n s) (λ i. rw getD-drop (bytes (n + i)))
 
 -- it has its type byte
-some-byte : (k : Kind) (s : List ℕ) (es : List Entry) → Body k s es → 1 ≤ length s
+some-byte : (k : BodyType) (s : List ℕ) (es : List Entry) → Body k s es → 1 ≤ length s
 some-byte k s es y = omega (arith, ap length (y .begins .1))
 
 -- what follows a body does not change where its entries begin
@@ -53,7 +53,7 @@ first-place : (rows : Bool) (s x : List ℕ) → 1 ≤ length s → (rows ≡ tr
 first-place false s x h r = (1, h, refl, refl)
 first-place true s x h r = (17, r refl, first-rows s (r refl), first-rows (s ++ x) (omega (arith, length-append s x, r refl)))
 
-module _ (k : Kind) (s : List ℕ) (es : List Entry) (x : List ℕ) (d : Placed) where
+module _ (k : BodyType) (s : List ℕ) (es : List Entry) (x : List ℕ) (d : Placed) where
   -- an entry behind a body, whose first id and first timestamp, if it has rows, are there
   grown : Body k s es → (hasRows k ≡ true → 17 ≤ length s) → 0 < length x → entryAt k (s ++ x) (length s) ≡ got d (length (s ++ x))
       → Body k (s ++ x) (es ++ (d .entry ∷ []))
@@ -78,7 +78,7 @@ module _ (k : Kind) (s : List ℕ) (es : List Entry) (x : List ℕ) (d : Placed)
       }
 
 -- an entry has bytes
-some-bytes : (b : List ℕ) (u : ℕ) (e : Entry) → (hasRows (kindFor e) ≡ true → u ≡ 1 → ⊥) → 0 < length (entryBytes b u e)
+some-bytes : (b : List ℕ) (u : ℕ) (e : Entry) → (hasRows (bodyTypeFor e) ≡ true → u ≡ 1 → ⊥) → 0 < length (entryBytes b u e)
 some-bytes b u (seriesEntry id ts) h = omega (arith, length-series b u id ts)
 some-bytes b u (sampleEntry id time v) h = omega (arith, length-sample b u id time v, length-row-later b u id (toBits time) v (h refl))
 some-bytes b u (tombstoneEntry id min max) h = omega (arith, length-tombstone b u id min max)
@@ -86,9 +86,9 @@ some-bytes b u (exemplarEntry id time v ts) h = omega (arith, length-exemplar b 
 some-bytes b u (metadataEntry id metric ts) h = omega (arith, length-metadata b u id metric ts)
 
 -- the bytes of an entry behind a body, where it is no first row
-later : (b : List ℕ) (u : ℕ) (s : List ℕ) (es : List Entry) (e : Entry) → Body (kindFor e) s es
-    → (hasRows (kindFor e) ≡ true → (17 ≤ length s) × Firsts b u s) → Fits e → length (entryBytes b u e) < 2 ^ 64
-    → Body (kindFor e) (s ++ entryBytes b u e) (es ++ (e ∷ []))
+later : (b : List ℕ) (u : ℕ) (s : List ℕ) (es : List Entry) (e : Entry) → Body (bodyTypeFor e) s es
+    → (hasRows (bodyTypeFor e) ≡ true → (17 ≤ length s) × Firsts b u s) → Fits e → length (entryBytes b u e) < 2 ^ 64
+    → Body (bodyTypeFor e) (s ++ entryBytes b u e) (es ++ (e ∷ []))
 later b u s es e y rows fits h =
     let x : List ℕ = entryBytes b u e in
     let there = read-entry b u (s ++ x) (length s) e fits h
@@ -100,7 +100,7 @@ later b u s es e y rows fits h =
       time-fits = rows q .1 .time-fits;
     })
     (stands-end s x) in
-    grown (kindFor e) s es x (record { entry = e; first = there .0 }) y (λ q. rows q .0) (some-bytes b u e (λ q. rows q .1 .later))
+    grown (bodyTypeFor e) s es x (record { entry = e; first = there .0 }) y (λ q. rows q .0) (some-bytes b u e (λ q. rows q .1 .later))
     (there .1 ∙ place-same (sym (length-append s x)))
 
 -- ---- the first row
@@ -129,7 +129,7 @@ module _ (s : List ℕ) (one : length s ≡ 1) (id time : ℕ) (hi : id < 2 ^ 64
       (stands-right headed (length s) (be8 id) (be8 time) (stands-end s (be8 id ++ be8 time)))
 
   -- a body of them alone has no entries, as the type byte alone has none
-  headed-body : (k : Kind) (es : List Entry) → hasRows k ≡ true → Body k s es → Body k headed es
+  headed-body : (k : BodyType) (es : List Entry) → hasRows k ≡ true → Body k s es → Body k headed es
   unfolding entries
   headed-body k es q y =
       let none : entries k s ≡ got [] 1 = rw (first-one (hasRows k) s one) (entries-end k s (length s) 1 (sym one)) in
@@ -161,17 +161,17 @@ module _ (s : List ℕ) (one : length s ≡ 1) (id time : ℕ) (hi : id < 2 ^ 64
       (sym (append-assoc (be8 id) (be8 time) _))
 
   -- so an entry that is them and a later one is one entry more
-  headed-added : (b : List ℕ) (es : List Entry) (e : Entry) → hasRows (kindFor e) ≡ true → Body (kindFor e) s es → Fits e
+  headed-added : (b : List ℕ) (es : List Entry) (e : Entry) → hasRows (bodyTypeFor e) ≡ true → Body (bodyTypeFor e) s es → Fits e
       → entryBytes b 1 e ≡ (be8 id ++ be8 time) ++ entryBytes headed 17 e → length (entryBytes b 1 e) < 2 ^ 64
-      → Body (kindFor e) (s ++ entryBytes b 1 e) (es ++ (e ∷ []))
+      → Body (bodyTypeFor e) (s ++ entryBytes b 1 e) (es ++ (e ∷ []))
   headed-added b es e q y fits split h =
       rw (split, ← append-assoc s (be8 id ++ be8 time) (entryBytes headed 17 e))
-      (later headed 17 headed es e (headed-body (kindFor e) es q y) (λ r. (omega (arith, length-headed), headed-firsts)) fits
+      (later headed 17 headed es e (headed-body (bodyTypeFor e) es q y) (λ r. (omega (arith, length-headed), headed-firsts)) fits
       (omega (arith, ap length split, length-append (be8 id ++ be8 time) (entryBytes headed 17 e))))
 
 -- a first row, of types 2 and 4
-first-added : (b s : List ℕ) (es : List Entry) (e : Entry) → hasRows (kindFor e) ≡ true → length s ≡ 1 → Body (kindFor e) s es → Fits e
-    → length (entryBytes b 1 e) < 2 ^ 64 → Body (kindFor e) (s ++ entryBytes b 1 e) (es ++ (e ∷ []))
+first-added : (b s : List ℕ) (es : List Entry) (e : Entry) → hasRows (bodyTypeFor e) ≡ true → length s ≡ 1 → Body (bodyTypeFor e) s es → Fits e
+    → length (entryBytes b 1 e) < 2 ^ 64 → Body (bodyTypeFor e) (s ++ entryBytes b 1 e) (es ++ (e ∷ []))
 unfolding entryBytes
 first-added b s es (seriesEntry id ts) q one y fits h = let z : _≡_ {A = ℕ} 0 1 = cc in absurd (omega arith)
 first-added b s es (sampleEntry id time v) q one y fits h =
@@ -181,21 +181,21 @@ first-added b s es (tombstoneEntry id min max) q one y fits h = let z : _≡_ {A
 first-added b s es (exemplarEntry id time v ts) q one y fits h =
     let ht : toBits time < 2 ^ 64 = to-lt time (fits .1) in
     headed-added s one id (toBits time) (fits .0) ht b es (exemplarEntry id time v ts) q y fits
-    (ap (λ (r : List ℕ). r ++ textListBytes ts) (row-headed s one id (toBits time) (fits .0) ht b v)
-    ∙ append-assoc (be8 id ++ be8 (toBits time)) _ (textListBytes ts)) h
+    (ap (λ (r : List ℕ). r ++ stringListBytes ts) (row-headed s one id (toBits time) (fits .0) ht b v)
+    ∙ append-assoc (be8 id ++ be8 (toBits time)) _ (stringListBytes ts)) h
 first-added b s es (metadataEntry id metric ts) q one y fits h = let z : _≡_ {A = ℕ} 0 1 = cc in absurd (omega arith)
 
 -- ---- any entry
 
 -- behind the u bytes used of a buffer
-pub body-added : (b : List ℕ) (u : ℕ) (es : List Entry) (e : Entry) → u ≤ length b → Body (kindFor e) (take u b) es → Fits e
-    → length (entryBytes b u e) < 2 ^ 64 → Body (kindFor e) (take u b ++ entryBytes b u e) (es ++ (e ∷ []))
-body-added b u es e l y fits h = go (hasRows (kindFor e)) (eqb u 1) refl refl
+pub body-added : (b : List ℕ) (u : ℕ) (es : List Entry) (e : Entry) → u ≤ length b → Body (bodyTypeFor e) (take u b) es → Fits e
+    → length (entryBytes b u e) < 2 ^ 64 → Body (bodyTypeFor e) (take u b ++ entryBytes b u e) (es ++ (e ∷ []))
+body-added b u es e l y fits h = go (hasRows (bodyTypeFor e)) (eqb u 1) refl refl
   where
     n : length (take u b) ≡ u
     n = length-take-le u b l
 
-    go : (rows one : Bool) → hasRows (kindFor e) ≡ rows → eqb u 1 ≡ one → Body (kindFor e) (take u b ++ entryBytes b u e) (es ++ (e ∷ []))
+    go : (rows one : Bool) → hasRows (bodyTypeFor e) ≡ rows → eqb u 1 ≡ one → Body (bodyTypeFor e) (take u b ++ entryBytes b u e) (es ++ (e ∷ []))
     go false one q t = later b u (take u b) es e y (λ r. let z : _≡_ {A = ℕ} 0 1 = cc in absurd (omega arith)) fits h
     go true true q t =
         let one : u ≡ 1 = eqb-true u 1 t in

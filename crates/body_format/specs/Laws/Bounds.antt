@@ -18,8 +18,8 @@ use Rattle.uvarint.specs.Uvarint.{readUvarint}
 use Rattle.uvarint.specs.UvarintLaws.{taken}
 use Rattle.varint.specs.Varint.{readVarint}
 use Rattle.varint.specs.VarintLaws.{taken-varint}
-use Rattle.body_format.specs.Fields.{Field, got, fault, andThen, byteAt, fixedAt, uvarintOf, uvarintAt, varintOf, varintAt, Text, textAt, textsAt, textListAt}
-use Rattle.body_format.specs.Entries.{Kind, series, samples, tombstones, exemplars, metadata, rowAt, seriesAt, sampleAt, tombstoneAt, exemplarAt, metadataAt, entryAt}
+use Rattle.body_format.specs.Fields.{Field, got, fault, andThen, byteAt, fixedAt, uvarintOf, uvarintAt, varintOf, varintAt, StringField, stringAt, stringsAt, stringListAt}
+use Rattle.body_format.specs.Entries.{BodyType, series, samples, tombstones, exemplars, metadata, rowAt, seriesAt, sampleAt, tombstoneAt, exemplarAt, metadataAt, entryAt}
 use Rattle.body_format.specs.Laws.Fields.{byte-got, byte-short, fixed-got, fixed-short}
 
 -- ---- what holds of a reading where it succeeds
@@ -98,29 +98,29 @@ module _ (s : List ℕ) where
       go v.BadVarint e = tt
 
   -- a string, at least the byte of its length
-  pub text-ahead : (p : ℕ) → Ahead 1 p (length s) (textAt s p)
-  unfolding textAt
-  text-ahead p = ahead-then 1 0 1 p (length s) (omega arith) (uvarintAt s p) _ (uvarint-ahead p) (λ n q l. inside n q l (ltb (length (drop q s)) n) refl)
+  pub string-ahead : (p : ℕ) → Ahead 1 p (length s) (stringAt s p)
+  unfolding stringAt
+  string-ahead p = ahead-then 1 0 1 p (length s) (omega arith) (uvarintAt s p) _ (uvarint-ahead p) (λ n q l. inside n q l (ltb (length (drop q s)) n) refl)
     where
       inside : (n q : ℕ) → q ≤ length s → (t : Bool) → ltb (length (drop q s)) n ≡ t
-          → Ahead {A = Text} 0 q (length s) (cond t (fault (Short (offset p))) (got (record { start = q; bytes = take n (drop q s) }) (q + n)))
+          → Ahead {A = StringField} 0 q (length s) (cond t (fault (Short (offset p))) (got (record { start = q; bytes = take n (drop q s) }) (q + n)))
       inside n q l true e = tt
       inside n q l false e = let h : n ≤ length (drop q s) = ltb-false (length (drop q s)) n e in omega (arith, length-drop q s)
 
   -- each of k strings has a byte at least
-  pub texts-ahead : (k p : ℕ) → p ≤ length s → Ahead k p (length s) (textsAt k s p)
-  unfolding textsAt
-  texts-ahead zero p h = omega arith
-  texts-ahead (suc k) p h =
-      ahead-then 1 k (suc k) p (length s) (omega arith) (textAt s p) _ (text-ahead p)
-      (λ t q l. ahead-then k 0 k q (length s) (omega arith) (textsAt k s q) _ (texts-ahead k q l) (λ ts r m. omega arith))
+  pub strings-ahead : (k p : ℕ) → p ≤ length s → Ahead k p (length s) (stringsAt k s p)
+  unfolding stringsAt
+  strings-ahead zero p h = omega arith
+  strings-ahead (suc k) p h =
+      ahead-then 1 k (suc k) p (length s) (omega arith) (stringAt s p) _ (string-ahead p)
+      (λ t q l. ahead-then k 0 k q (length s) (omega arith) (stringsAt k s q) _ (strings-ahead k q l) (λ ts r m. omega arith))
 
   -- a list of strings, at least the byte of its count
-  pub list-ahead : (p : ℕ) → Ahead 1 p (length s) (textListAt s p)
-  unfolding textListAt
+  pub list-ahead : (p : ℕ) → Ahead 1 p (length s) (stringListAt s p)
+  unfolding stringListAt
   list-ahead p =
       ahead-then 1 0 1 p (length s) (omega arith) (uvarintAt s p) _ (uvarint-ahead p)
-      (λ n q l. ahead-then (2 * n) 0 0 q (length s) (omega arith) (textsAt (2 * n) s q) _ (texts-ahead (2 * n) q l) (λ ts r m. omega arith))
+      (λ n q l. ahead-then (2 * n) 0 0 q (length s) (omega arith) (stringsAt (2 * n) s q) _ (strings-ahead (2 * n) q l) (λ ts r m. omega arith))
 
   -- a row has two deltas and eight bytes
   pub row-ahead : (p : ℕ) → Ahead 10 p (length s) (rowAt s p)
@@ -131,11 +131,11 @@ module _ (s : List ℕ) where
       (λ e r m. ahead-then 8 0 8 r (length s) (omega arith) (fixedAt s r) _ (fixed-ahead r) (λ v next i. omega arith)))
 
   -- every entry has a byte at least
-  pub entry-ahead : (k : Kind) (p : ℕ) → Ahead 1 p (length s) (entryAt k s p)
+  pub entry-ahead : (k : BodyType) (p : ℕ) → Ahead 1 p (length s) (entryAt k s p)
   unfolding seriesAt sampleAt tombstoneAt exemplarAt metadataAt
   entry-ahead series p =
       ahead-then 8 1 1 p (length s) (omega arith) (fixedAt s p) _ (fixed-ahead p)
-      (λ id q l. ahead-then 1 0 1 q (length s) (omega arith) (textListAt s q) _ (list-ahead q) (λ ts r m. omega arith))
+      (λ id q l. ahead-then 1 0 1 q (length s) (omega arith) (stringListAt s q) _ (list-ahead q) (λ ts r m. omega arith))
   entry-ahead samples p = ahead-then 10 0 1 p (length s) (omega arith) (rowAt s p) _ (row-ahead p) (λ w q l. omega arith)
   entry-ahead tombstones p =
       ahead-then 8 1 1 p (length s) (omega arith) (fixedAt s p) _ (fixed-ahead p)
@@ -143,8 +143,8 @@ module _ (s : List ℕ) where
       (λ min r m. ahead-then 1 0 0 r (length s) (omega arith) (varintAt s r) _ (varint-ahead r) (λ max next i. omega arith)))
   entry-ahead exemplars p =
       ahead-then 10 1 1 p (length s) (omega arith) (rowAt s p) _ (row-ahead p)
-      (λ w q l. ahead-then 1 0 1 q (length s) (omega arith) (textListAt s q) _ (list-ahead q) (λ ts r m. omega arith))
+      (λ w q l. ahead-then 1 0 1 q (length s) (omega arith) (stringListAt s q) _ (list-ahead q) (λ ts r m. omega arith))
   entry-ahead metadata p =
       ahead-then 1 1 1 p (length s) (omega arith) (uvarintAt s p) _ (uvarint-ahead p)
       (λ id q l. ahead-then 1 0 1 q (length s) (omega arith) (byteAt s q) _ (byte-ahead q)
-      (λ metric r m. ahead-then 1 0 0 r (length s) (omega arith) (textListAt s r) _ (list-ahead r) (λ ts next i. omega arith)))
+      (λ metric r m. ahead-then 1 0 0 r (length s) (omega arith) (stringListAt s r) _ (list-ahead r) (λ ts next i. omega arith)))

@@ -8,12 +8,12 @@ use native.Mathlib.Omega.{arith}
 use lib.ListN.{length, take}
 use lib.Seq.{sets, length-sets}
 use Rattle.body_format.specs.declared.CheckAnswer.the-variants.{Entries}
-use Rattle.body_format.specs.Entries.{Kind, typeByte, Known, known, unknown, kindOf, hasRows, Entry, kindFor, entries}
+use Rattle.body_format.specs.Entries.{BodyType, typeByte, Known, known, unknown, bodyTypeOf, hasRows, Entry, bodyTypeFor, entries}
 use Rattle.body_format.specs.Reading.{checkBody, readEntry, readString}
 use Rattle.body_format.specs.Building.{entryBytes, Outcome, used, refused, startKnown, start, startBytes, add, addBytes}
 use Rattle.body_format.specs.Calls.{Addition, addSeries, addSample, addTombstone, addExemplar, addMetadata, entryFor, listIsBad, builder, usedThen, finalBuffer, finalUsed, withEntry, added, Walks}
 use Rattle.body_format.specs.Claims.{InRange, AllInRange}
-use Rattle.body_format.specs.Laws.Kinds.{kind-known, kind-byte}
+use Rattle.body_format.specs.Laws.Types.{type-known, type-byte}
 use Rattle.body_format.specs.Laws.Lists.{entries-end, first-one}
 use Rattle.body_format.specs.Laws.Strings.{even-list}
 use Rattle.body_format.specs.Laws.Entries.{Fits}
@@ -24,24 +24,24 @@ use Rattle.body_format.specs.Laws.Walks.{entries-walk}
 -- ---- what is known of a body
 
 -- it is checked with as many entries as it has
-pub body-checks : (k : Kind) (s : List ℕ) (es : List Entry) → Body k s es → checkBody s ≡ Entries (length es)
+pub body-checks : (k : BodyType) (s : List ℕ) (es : List Entry) → Body k s es → checkBody s ≡ Entries (length es)
 unfolding checkBody
 body-checks k [] es y = absurd (omega (arith, ap length (y .begins .1)))
 body-checks k (c ∷ s) es y =
     let type : c ≡ typeByte k = let e = y .begins .1 in cc in
-    rw (ap kindOf type ∙ kind-known k, y .reads)
+    rw (ap bodyTypeOf type ∙ type-known k, y .reads)
 
 -- and walked with them
-pub body-walks : (k : Kind) (s : List ℕ) (es : List Entry) → Body k s es → Walks readEntry readString s 1 es
+pub body-walks : (k : BodyType) (s : List ℕ) (es : List Entry) → Body k s es → Walks readEntry readString s 1 es
 body-walks k [] es y = absurd (omega (arith, ap length (y .begins .1)))
 body-walks k (c ∷ s) es y =
     let type : c ≡ typeByte k = let e = y .begins .1 in cc in
-    entries-walk c s k (ap kindOf type ∙ kind-known k) es (length (c ∷ s)) (y .reads)
+    entries-walk c s k (ap bodyTypeOf type ∙ type-known k) es (length (c ∷ s)) (y .reads)
 
 -- ---- a started body
 
 -- the type byte alone has no entries
-type-alone : (k : Kind) → Body k (typeByte k ∷ []) []
+type-alone : (k : BodyType) → Body k (typeByte k ∷ []) []
 unfolding entries
 type-alone k = record {
   begins = ([], refl);
@@ -51,14 +51,14 @@ type-alone k = record {
 
 -- it has its type byte and no entries
 pub started : (b : List ℕ) (t : ℕ) → start b t ≡ used 1
-    → (k : Kind) × (t ≡ typeByte k) × (1 ≤ length (startBytes (start b t) b t)) × Body k (take 1 (startBytes (start b t) b t)) []
+    → (k : BodyType) × (t ≡ typeByte k) × (1 ≤ length (startBytes (start b t) b t)) × Body k (take 1 (startBytes (start b t) b t)) []
 unfolding start
-started b t e = go (kindOf t) refl b e
+started b t e = go (bodyTypeOf t) refl b e
   where
-    go : (x : Known) → kindOf t ≡ x → (c : List ℕ) → startKnown x c ≡ used 1
-        → (k : Kind) × (t ≡ typeByte k) × (1 ≤ length (startBytes (startKnown x c) c t)) × Body k (take 1 (startBytes (startKnown x c) c t)) []
+    go : (x : Known) → bodyTypeOf t ≡ x → (c : List ℕ) → startKnown x c ≡ used 1
+        → (k : BodyType) × (t ≡ typeByte k) × (1 ≤ length (startBytes (startKnown x c) c t)) × Body k (take 1 (startBytes (startKnown x c) c t)) []
     go (known k) h [] i = let z : _≡_ {A = ℕ} 0 1 = cc in absurd (omega arith)
-    go (known k) h (a ∷ c) i = rw i (k, kind-byte t k h, omega arith, rw (kind-byte t k h) (type-alone k))
+    go (known k) h (a ∷ c) i = rw i (k, type-byte t k h, omega arith, rw (type-byte t k h) (type-alone k))
     go unknown h c i = let z : _≡_ {A = ℕ} 0 1 = cc in absurd (omega arith)
 
 -- ---- additions
@@ -71,7 +71,7 @@ fits (addTombstone id min max) h e = h
 fits (addExemplar id time v bytes lengths) h e = (h .0, h .1, h .2, even-list bytes lengths e)
 fits (addMetadata id metric bytes lengths) h e = (h .0, even-list bytes lengths e)
 
-module _ (t : ℕ) (k : Kind) (type : t ≡ typeByte k) where
+module _ (t : ℕ) (k : BodyType) (type : t ≡ typeByte k) where
   -- "each addition hands back the body state with one entry more": also where the body was not built here (`readable`)
   pub one-more : (b : List ℕ) (u n : ℕ) (es : List Entry) (a : Addition) → InRange a → u ≤ length b → Body k (take u b) es
       → add b t u (entryFor a) (listIsBad a) ≡ used n
@@ -79,10 +79,10 @@ module _ (t : ℕ) (k : Kind) (type : t ≡ typeByte k) where
   one-more b u n es a h l y e =
       let x : List ℕ = entryBytes b u (entryFor a) in
       let w : Accepted b t u (entryFor a) (listIsBad a) n = accepted b t u (entryFor a) (listIsBad a) n e in
-      let same : known (kindFor (entryFor a)) ≡ known k = sym (kind-known (kindFor (entryFor a))) ∙ ap kindOf (sym (w .kind) ∙ type) ∙ kind-known k in
-      let kind : kindFor (entryFor a) ≡ k = cc in
-      rw (w .size, sets-upto b x u (omega arith), ← kind)
-      (body-added b u es (entryFor a) l (rw kind y) (fits a h (w .list)) (omega arith))
+      let same : known (bodyTypeFor (entryFor a)) ≡ known k = sym (type-known (bodyTypeFor (entryFor a))) ∙ ap bodyTypeOf (sym (w .tag) ∙ type) ∙ type-known k in
+      let tag : bodyTypeFor (entryFor a) ≡ k = cc in
+      rw (w .size, sets-upto b x u (omega arith), ← tag)
+      (body-added b u es (entryFor a) l (rw tag y) (fits a h (w .list)) (omega arith))
 
   -- a list of additions, each with the state last handed back
   pub built : (xs : List Addition) (b : List ℕ) (u : ℕ) (es : List Entry) → AllInRange xs → u ≤ length b → Body k (take u b) es

@@ -14,8 +14,8 @@ use Rattle.uvarint.specs.Uvarint.{uvarint}
 use Rattle.varint.specs.Varint.{varint}
 use Rattle.big_endian.specs.Fixed.{be8, readBe8}
 use Rattle.body_format.specs.Fields.{got}
-use Rattle.body_format.specs.Entries.{hasRows, Entry, seriesEntry, sampleEntry, tombstoneEntry, exemplarEntry, metadataEntry, kindFor, rowAt, seriesAt, sampleAt, tombstoneAt, exemplarAt, metadataAt, entryAt}
-use Rattle.body_format.specs.Building.{textListBytes, deltaBytes, rowBytes, entryBytes}
+use Rattle.body_format.specs.Entries.{hasRows, Entry, seriesEntry, sampleEntry, tombstoneEntry, exemplarEntry, metadataEntry, bodyTypeFor, rowAt, seriesAt, sampleAt, tombstoneAt, exemplarAt, metadataAt, entryAt}
+use Rattle.body_format.specs.Building.{stringListBytes, deltaBytes, rowBytes, entryBytes}
 use Rattle.body_format.specs.Laws.Fields.{place-same, Stands, stands-left, stands-right, read-byte, read-fixed, read-uvarint-at, read-varint-at, read-list}
 use Rattle.body_format.specs.Laws.Strings.{row-later}
 
@@ -60,16 +60,16 @@ module _ (b : List ℕ) (used : ℕ) (s : List ℕ) (p : ℕ) where
       (place-same (omega (arith, length-append d (e ++ be8 v), length-append e (be8 v))))
 
   -- an entry of any type, and some place where its strings begin
-  pub read-entry : (e : Entry) → Fits e → length (entryBytes b used e) < 2 ^ 64 → (hasRows (kindFor e) ≡ true → Firsts b used s)
+  pub read-entry : (e : Entry) → Fits e → length (entryBytes b used e) < 2 ^ 64 → (hasRows (bodyTypeFor e) ≡ true → Firsts b used s)
       → Stands s p (entryBytes b used e)
-      → (first : ℕ) × (entryAt (kindFor e) s p ≡ got (record { entry = e; first = first }) (p + length (entryBytes b used e)))
+      → (first : ℕ) × (entryAt (bodyTypeFor e) s p ≡ got (record { entry = e; first = first }) (p + length (entryBytes b used e)))
   unfolding entryBytes seriesAt sampleAt tombstoneAt exemplarAt metadataAt
   read-entry (seriesEntry id ts) (hi, even) h rows st =
-      let l : length (be8 id ++ textListBytes ts) ≡ length (be8 id) + length (textListBytes ts) = length-append (be8 id) (textListBytes ts) in (
+      let l : length (be8 id ++ stringListBytes ts) ≡ length (be8 id) + length (stringListBytes ts) = length-append (be8 id) (stringListBytes ts) in (
         p + length (be8 id) + length (uvarint (length ts / 2)),
         rw (
-          read-fixed s p id hi (stands-left s p (be8 id) (textListBytes ts) st),
-          read-list s (p + length (be8 id)) ts (omega arith) even (stands-right s p (be8 id) (textListBytes ts) st),
+          read-fixed s p id hi (stands-left s p (be8 id) (stringListBytes ts) st),
+          read-list s (p + length (be8 id)) ts (omega arith) even (stands-right s p (be8 id) (stringListBytes ts) st),
         )
             (place-same (omega arith)),
       )
@@ -87,24 +87,24 @@ module _ (b : List ℕ) (used : ℕ) (s : List ℕ) (p : ℕ) where
       )
   read-entry (exemplarEntry id time v ts) (hi, ht, hv, even) h rows st =
       let row : List ℕ = rowBytes b used id (toBits time) v in
-      let l : length (row ++ textListBytes ts) ≡ length row + length (textListBytes ts) = length-append row (textListBytes ts) in (
+      let l : length (row ++ stringListBytes ts) ≡ length row + length (stringListBytes ts) = length-append row (stringListBytes ts) in (
         p + length row + length (uvarint (length ts / 2)),
         rw (
-          read-row id time v hi ht hv (rows refl) (stands-left s p row (textListBytes ts) st),
-          read-list s (p + length row) ts (omega arith) even (stands-right s p row (textListBytes ts) st),
+          read-row id time v hi ht hv (rows refl) (stands-left s p row (stringListBytes ts) st),
+          read-list s (p + length row) ts (omega arith) even (stands-right s p row (stringListBytes ts) st),
         )
             (place-same (omega arith)),
       )
   read-entry (metadataEntry id metric ts) (hi, even) h rows st =
-      let next : Stands s (p + length (uvarint id)) (metric ∷ textListBytes ts) = stands-right s p (uvarint id) (metric ∷ textListBytes ts) st in
-      let l : length (uvarint id ++ (metric ∷ textListBytes ts)) ≡ length (uvarint id) + (1 + length (textListBytes ts)) =
-      length-append (uvarint id) (metric ∷ textListBytes ts) ∙ omega arith in (
+      let next : Stands s (p + length (uvarint id)) (metric ∷ stringListBytes ts) = stands-right s p (uvarint id) (metric ∷ stringListBytes ts) st in
+      let l : length (uvarint id ++ (metric ∷ stringListBytes ts)) ≡ length (uvarint id) + (1 + length (stringListBytes ts)) =
+      length-append (uvarint id) (metric ∷ stringListBytes ts) ∙ omega arith in (
         p + length (uvarint id) + 1 + length (uvarint (length ts / 2)),
         rw (
-          read-uvarint-at s p id hi (stands-left s p (uvarint id) (metric ∷ textListBytes ts) st),
-          read-byte s (p + length (uvarint id)) metric (stands-left s (p + length (uvarint id)) (metric ∷ []) (textListBytes ts) next),
+          read-uvarint-at s p id hi (stands-left s p (uvarint id) (metric ∷ stringListBytes ts) st),
+          read-byte s (p + length (uvarint id)) metric (stands-left s (p + length (uvarint id)) (metric ∷ []) (stringListBytes ts) next),
           read-list s (p + length (uvarint id) + 1) ts (omega arith) even
-              (stands-right s (p + length (uvarint id)) (metric ∷ []) (textListBytes ts) next),
+              (stands-right s (p + length (uvarint id)) (metric ∷ []) (stringListBytes ts) next),
         )
             (place-same (omega arith)),
       )

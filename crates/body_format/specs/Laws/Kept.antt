@@ -21,8 +21,8 @@ use Rattle.varint.specs.Varint.{readVarint}
 use Rattle.varint.specs.VarintLaws.{taken-varint, append-value-varint}
 use Rattle.big_endian.specs.Fixed.{readBe8}
 use Rattle.big_endian.specs.FixedLaws.{append-be8}
-use Rattle.body_format.specs.Fields.{Field, got, fault, andThen, byteAt, fixedAt, uvarintOf, uvarintAt, varintOf, varintAt, Text, textAt, textsAt, textListAt}
-use Rattle.body_format.specs.Entries.{Kind, series, samples, tombstones, exemplars, metadata, hasRows, rowAt, seriesAt, sampleAt, tombstoneAt, exemplarAt, metadataAt, entryAt}
+use Rattle.body_format.specs.Fields.{Field, got, fault, andThen, byteAt, fixedAt, uvarintOf, uvarintAt, varintOf, varintAt, StringField, stringAt, stringsAt, stringListAt}
+use Rattle.body_format.specs.Entries.{BodyType, series, samples, tombstones, exemplars, metadata, hasRows, rowAt, seriesAt, sampleAt, tombstoneAt, exemplarAt, metadataAt, entryAt}
 use Rattle.body_format.specs.Laws.Fields.{byte-got, byte-short, fixed-got, fixed-short}
 use Rattle.body_format.specs.Laws.Bounds.{Every, uvarint-ahead}
 
@@ -94,12 +94,12 @@ module _ (s t : List ℕ) where
       go v.BadVarint e = tt
 
   -- a string
-  pub text-kept : (p : ℕ) → Kept (textAt s p) (textAt (s ++ t) p)
-  unfolding textAt
-  text-kept p = kept-within p (length s) (uvarintAt s p) (uvarintAt (s ++ t) p) _ _ (uvarint-ahead s p) (uvarint-kept p) (λ n q l. inside n q l (ltb (length (drop q s)) n) refl)
+  pub string-kept : (p : ℕ) → Kept (stringAt s p) (stringAt (s ++ t) p)
+  unfolding stringAt
+  string-kept p = kept-within p (length s) (uvarintAt s p) (uvarintAt (s ++ t) p) _ _ (uvarint-ahead s p) (uvarint-kept p) (λ n q l. inside n q l (ltb (length (drop q s)) n) refl)
     where
       inside : (n q : ℕ) → q ≤ length s → (b : Bool) → ltb (length (drop q s)) n ≡ b
-          → Kept {A = Text} (cond b (fault (Short (offset p))) (got (record { start = q; bytes = take n (drop q s) }) (q + n)))
+          → Kept {A = StringField} (cond b (fault (Short (offset p))) (got (record { start = q; bytes = take n (drop q s) }) (q + n)))
           (cond (ltb (length (drop q (s ++ t))) n) (fault (Short (offset p))) (got (record { start = q; bytes = take n (drop q (s ++ t)) }) (q + n)))
       inside n q l true e = tt
       inside n q l false e =
@@ -107,19 +107,19 @@ module _ (s t : List ℕ) where
           rw (drop-append-le q s t l, le-ltb (length (drop q s ++ t)) n (omega (arith, length-append (drop q s) t)), take-append-le n (drop q s) t h)
 
   -- strings in a row
-  pub texts-kept : (k p : ℕ) → Kept (textsAt k s p) (textsAt k (s ++ t) p)
-  unfolding textsAt
-  texts-kept zero p = refl
-  texts-kept (suc k) p =
-      kept-then (textAt s p) (textAt (s ++ t) p) _ _ (text-kept p)
-      (λ x q. kept-then (textsAt k s q) (textsAt k (s ++ t) q) _ _ (texts-kept k q) (λ xs r. refl))
+  pub strings-kept : (k p : ℕ) → Kept (stringsAt k s p) (stringsAt k (s ++ t) p)
+  unfolding stringsAt
+  strings-kept zero p = refl
+  strings-kept (suc k) p =
+      kept-then (stringAt s p) (stringAt (s ++ t) p) _ _ (string-kept p)
+      (λ x q. kept-then (stringsAt k s q) (stringsAt k (s ++ t) q) _ _ (strings-kept k q) (λ xs r. refl))
 
   -- a list of strings
-  pub list-kept : (p : ℕ) → Kept (textListAt s p) (textListAt (s ++ t) p)
-  unfolding textListAt
+  pub list-kept : (p : ℕ) → Kept (stringListAt s p) (stringListAt (s ++ t) p)
+  unfolding stringListAt
   list-kept p =
       kept-then (uvarintAt s p) (uvarintAt (s ++ t) p) _ _ (uvarint-kept p)
-      (λ n q. kept-then (textsAt (2 * n) s q) (textsAt (2 * n) (s ++ t) q) _ _ (texts-kept (2 * n) q) (λ xs r. refl))
+      (λ n q. kept-then (stringsAt (2 * n) s q) (stringsAt (2 * n) (s ++ t) q) _ _ (strings-kept (2 * n) q) (λ xs r. refl))
 
   -- a row, in a body that has its first id and first timestamp
   pub row-kept : (p : ℕ) → 17 ≤ length s → Kept (rowAt s p) (rowAt (s ++ t) p)
@@ -131,11 +131,11 @@ module _ (s t : List ℕ) where
       (λ e r. kept-then (fixedAt s r) (fixedAt (s ++ t) r) _ _ (fixed-kept r) (λ w next. refl))))
 
   -- an entry of any type
-  pub entry-kept : (k : Kind) (p : ℕ) → (hasRows k ≡ true → 17 ≤ length s) → Kept (entryAt k s p) (entryAt k (s ++ t) p)
+  pub entry-kept : (k : BodyType) (p : ℕ) → (hasRows k ≡ true → 17 ≤ length s) → Kept (entryAt k s p) (entryAt k (s ++ t) p)
   unfolding seriesAt sampleAt tombstoneAt exemplarAt metadataAt
   entry-kept series p h =
       kept-then (fixedAt s p) (fixedAt (s ++ t) p) _ _ (fixed-kept p)
-      (λ id q. kept-then (textListAt s q) (textListAt (s ++ t) q) _ _ (list-kept q) (λ l r. refl))
+      (λ id q. kept-then (stringListAt s q) (stringListAt (s ++ t) q) _ _ (list-kept q) (λ l r. refl))
   entry-kept samples p h = kept-then (rowAt s p) (rowAt (s ++ t) p) _ _ (row-kept p (h refl)) (λ w r. refl)
   entry-kept tombstones p h =
       kept-then (fixedAt s p) (fixedAt (s ++ t) p) _ _ (fixed-kept p)
@@ -143,8 +143,8 @@ module _ (s t : List ℕ) where
       (λ min r. kept-then (varintAt s r) (varintAt (s ++ t) r) _ _ (varint-kept r) (λ max next. refl)))
   entry-kept exemplars p h =
       kept-then (rowAt s p) (rowAt (s ++ t) p) _ _ (row-kept p (h refl))
-      (λ w q. kept-then (textListAt s q) (textListAt (s ++ t) q) _ _ (list-kept q) (λ l r. refl))
+      (λ w q. kept-then (stringListAt s q) (stringListAt (s ++ t) q) _ _ (list-kept q) (λ l r. refl))
   entry-kept metadata p h =
       kept-then (uvarintAt s p) (uvarintAt (s ++ t) p) _ _ (uvarint-kept p)
       (λ id q. kept-then (byteAt s q) (byteAt (s ++ t) q) _ _ (byte-kept q)
-      (λ metric r. kept-then (textListAt s r) (textListAt (s ++ t) r) _ _ (list-kept r) (λ l next. refl)))
+      (λ metric r. kept-then (stringListAt s r) (stringListAt (s ++ t) r) _ _ (list-kept r) (λ l next. refl)))

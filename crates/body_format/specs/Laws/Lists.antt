@@ -9,7 +9,7 @@ use borrow.Author.Tests.{eq-eqb, ne-eqb, eqb-true, eqb-false}
 use lib.ListN.{length, length-append}
 use lib.Dec.{eqb}
 use Rattle.body_format.specs.Fields.{Field, got, fault, andThen, fixedAt}
-use Rattle.body_format.specs.Entries.{Kind, hasRows, Entry, Placed, entryAt, entriesFrom, firstAt, entries}
+use Rattle.body_format.specs.Entries.{BodyType, hasRows, Entry, Placed, entryAt, entriesFrom, firstAt, entries}
 use Rattle.body_format.specs.Laws.Fields.{fixed-got}
 use Rattle.body_format.specs.Laws.Bounds.{Every, every-then, every-both, fixed-ahead, entry-ahead}
 use Rattle.body_format.specs.Laws.Kept.{entry-kept}
@@ -20,7 +20,7 @@ pub then-cong : {A B : Type 0} (P : A → ℕ → Type 0) (x : Field A) (f g : A
 then-cong P (got a q) f g h k = k a q h
 then-cong P (fault why) f g h k = refl
 
-module _ (k : Kind) (s : List ℕ) where
+module _ (k : BodyType) (s : List ℕ) where
   -- an entry, and then at most n more
   abbrev pub entryThen : ℕ → ℕ → Field (List Entry)
   entryThen n p = andThen (entryAt k s p) (λ e q. andThen (entriesFrom n k s q) (λ es r. got (e .entry ∷ es) r))
@@ -69,7 +69,7 @@ module _ (k : Kind) (s : List ℕ) where
           (λ e q l. every-then (λ es r. r ≡ length s) (λ es r. r ≡ length s) (entriesFrom n k s q) _ (ih q (l .1) (omega arith)) (λ es r m. m)))
 
 -- Where the entries of s from p on are es, and the bytes x after s are an entry, those of s and x are es and that entry.
-module _ (k : Kind) (s x : List ℕ) (d : Placed) (rows : hasRows k ≡ true → 17 ≤ length s) (some : 0 < length x)
+module _ (k : BodyType) (s x : List ℕ) (d : Placed) (rows : hasRows k ≡ true → 17 ≤ length s) (some : 0 < length x)
     (this : entryAt k (s ++ x) (length s) ≡ got d (length (s ++ x))) where
   -- that entry alone, at the end of s
   snoc-end : (n p : ℕ) → p ≡ length s → entriesFrom (suc n) k (s ++ x) p ≡ got (d .entry ∷ []) (length (s ++ x))
@@ -122,7 +122,7 @@ first-bounds true s h = go (eqb (length s) 1) refl
         (λ id q l. every-then (λ time r. (q + 8 ≤ r) × (r ≤ length s)) _ (fixedAt s q) _ (fixed-ahead s q) (λ time r m. (omega arith, m .1, λ x y. omega arith)))
 
 -- the entries of a body end at its end, and so much of a body of rows is there
-pub entries-whole : (k : Kind) (s : List ℕ) → 1 ≤ length s
+pub entries-whole : (k : BodyType) (s : List ℕ) → 1 ≤ length s
     → Every (λ es r. (r ≡ length s) × (hasRows k ≡ true → (length s ≡ 1 → ⊥) → 17 ≤ length s)) (entries k s)
 unfolding entries
 entries-whole k s h =

@@ -10,10 +10,10 @@ use lib.ListN.{length}
 use lib.Dec.{leb}
 use Rattle.wal_types.specs.declared.Refusal.the-variants.{BadPlace}
 use Rattle.body_format.specs.declared.EntryAnswer.the-variants.{Refused}
-use Rattle.body_format.specs.Entries.{Kind, known, hasRows, firstAt}
+use Rattle.body_format.specs.Entries.{BodyType, known, hasRows, firstAt}
 use Rattle.body_format.specs.Reading.{badPlace, entryOrEnd, firstEntry, entryKnown}
 
-module _ (k : Kind) (s : List ℕ) (p : ℕ) where
+module _ (k : BodyType) (s : List ℕ) (p : ℕ) where
   -- place 0 is bad
   pub bad-zero : p ≡ 0 → Refused BadPlace ≡ entryKnown (known k) s p
   unfolding badPlace

@@ -18,22 +18,22 @@ use Rattle.varint.specs.Varint.{varint}
 use Rattle.big_endian.specs.Fixed.{be8, readBe8}
 use Rattle.big_endian.specs.FixedLaws.{length-be8}
 use Rattle.body_format.specs.Entries.{seriesEntry, sampleEntry, tombstoneEntry, exemplarEntry, metadataEntry}
-use Rattle.body_format.specs.Building.{textsBytes, textListBytes, deltaBytes, rowBytes, entryBytes, cutTexts, total, badList}
-use Rattle.body_format.specs.Laws.Fields.{length-texts}
+use Rattle.body_format.specs.Building.{stringsBytes, stringListBytes, deltaBytes, rowBytes, entryBytes, cutStrings, total, badList}
+use Rattle.body_format.specs.Laws.Fields.{length-strings}
 
 -- ---- one slice of bytes, and one of lengths
 
 -- as many strings as lengths
-pub length-cut : (bytes lengths : List ℕ) → length (cutTexts bytes lengths) ≡ length lengths
-unfolding cutTexts
+pub length-cut : (bytes lengths : List ℕ) → length (cutStrings bytes lengths) ≡ length lengths
+unfolding cutStrings
 length-cut bytes [] = refl
 length-cut bytes (n ∷ lengths) = ap suc (length-cut (drop n bytes) lengths)
 
 -- string i, whose bytes start at `at`, and those after it
 pub cut-step : (bytes lengths : List ℕ) (at i : ℕ) → i < length lengths
-    → cutTexts (drop at bytes) (drop i lengths)
-    ≡ take (getD lengths i 0) (drop at bytes) ∷ cutTexts (drop (at + getD lengths i 0) bytes) (drop (i + 1) lengths)
-unfolding cutTexts
+    → cutStrings (drop at bytes) (drop i lengths)
+    ≡ take (getD lengths i 0) (drop at bytes) ∷ cutStrings (drop (at + getD lengths i 0) bytes) (drop (i + 1) lengths)
+unfolding cutStrings
 cut-step bytes lengths at i h = rw (add-one i, drop-cons lengths i 0 h, drop-drop (getD lengths i 0) at bytes)
 
 -- the sum from length i on
@@ -42,12 +42,12 @@ unfolding total
 total-step lengths i h = rw (add-one i, drop-cons lengths i 0 h)
 
 -- where the slice has the first string, the bytes of its length, its own, and those of the strings after it
-pub length-cut-texts : (bytes lengths : List ℕ) (n : ℕ) → n ≤ length bytes
-    → length (textsBytes (cutTexts bytes (n ∷ lengths))) ≡ length (uvarint n) + n + length (textsBytes (cutTexts (drop n bytes) lengths))
-unfolding cutTexts
-length-cut-texts bytes lengths n h =
-    length-texts (take n bytes) (cutTexts (drop n bytes) lengths)
-    ∙ ap (λ (m : ℕ). length (uvarint m) + m + length (textsBytes (cutTexts (drop n bytes) lengths))) (length-take-le n bytes h)
+pub length-cut-strings : (bytes lengths : List ℕ) (n : ℕ) → n ≤ length bytes
+    → length (stringsBytes (cutStrings bytes (n ∷ lengths))) ≡ length (uvarint n) + n + length (stringsBytes (cutStrings (drop n bytes) lengths))
+unfolding cutStrings
+length-cut-strings bytes lengths n h =
+    length-strings (take n bytes) (cutStrings (drop n bytes) lengths)
+    ∙ ap (λ (m : ℕ). length (uvarint m) + m + length (stringsBytes (cutStrings (drop n bytes) lengths))) (length-take-le n bytes h)
 
 -- BadList: an odd number of strings
 pub odd-list : (bytes lengths : List ℕ) → length lengths % 2 ≡ 1 → badList bytes lengths ≡ true
@@ -55,12 +55,12 @@ unfolding badList
 odd-list bytes lengths h = rw (eq-eqb (length lengths % 2) 1 h)
 
 -- a list that is not bad has an even number of strings
-pub even-list : (bytes lengths : List ℕ) → badList bytes lengths ≡ false → length (cutTexts bytes lengths) % 2 ≡ 0
+pub even-list : (bytes lengths : List ℕ) → badList bytes lengths ≡ false → length (cutStrings bytes lengths) % 2 ≡ 0
 unfolding badList
 even-list bytes lengths h = go (eqb (length lengths % 2) 1) refl h
   where
     go : (t : Bool) → eqb (length lengths % 2) 1 ≡ t → t || not (eqb (total lengths) (length bytes)) ≡ false
-        → length (cutTexts bytes lengths) % 2 ≡ 0
+        → length (cutStrings bytes lengths) % 2 ≡ 0
     go true e k = let z : _≡_ {A = ℕ} 0 1 = cc in absurd (omega arith)
     go false e k = let ne : length lengths % 2 ≡ 1 → ⊥ = eqb-false (length lengths % 2) 1 e in rw (length-cut bytes lengths) (omega arith)
 
@@ -110,9 +110,9 @@ module _ (b : List ℕ) (used : ℕ) where
       ))
 
   -- an id and a list of strings
-  pub length-series : (id : ℕ) (ts : List (List ℕ)) → length (entryBytes b used (seriesEntry id ts)) ≡ 8 + length (textListBytes ts)
+  pub length-series : (id : ℕ) (ts : List (List ℕ)) → length (entryBytes b used (seriesEntry id ts)) ≡ 8 + length (stringListBytes ts)
   unfolding entryBytes
-  length-series id ts = omega (arith, length-append (be8 id) (textListBytes ts), length-be8 id)
+  length-series id ts = omega (arith, length-append (be8 id) (stringListBytes ts), length-be8 id)
 
   -- a row
   pub length-sample : (id : ℕ) (time : ℤ) (v : ℕ) → length (entryBytes b used (sampleEntry id time v)) ≡ length (rowBytes b used id (toBits time) v)
@@ -127,12 +127,12 @@ module _ (b : List ℕ) (used : ℕ) where
 
   -- a row and a list of strings
   pub length-exemplar : (id : ℕ) (time : ℤ) (v : ℕ) (ts : List (List ℕ))
-      → length (entryBytes b used (exemplarEntry id time v ts)) ≡ length (rowBytes b used id (toBits time) v) + length (textListBytes ts)
+      → length (entryBytes b used (exemplarEntry id time v ts)) ≡ length (rowBytes b used id (toBits time) v) + length (stringListBytes ts)
   unfolding entryBytes
-  length-exemplar id time v ts = length-append (rowBytes b used id (toBits time) v) (textListBytes ts)
+  length-exemplar id time v ts = length-append (rowBytes b used id (toBits time) v) (stringListBytes ts)
 
   -- an id, a byte and a list of strings
   pub length-metadata : (id metric : ℕ) (ts : List (List ℕ))
-      → length (entryBytes b used (metadataEntry id metric ts)) ≡ length (uvarint id) + 1 + length (textListBytes ts)
+      → length (entryBytes b used (metadataEntry id metric ts)) ≡ length (uvarint id) + 1 + length (stringListBytes ts)
   unfolding entryBytes
-  length-metadata id metric ts = omega (arith, length-append (uvarint id) (metric ∷ textListBytes ts))
+  length-metadata id metric ts = omega (arith, length-append (uvarint id) (metric ∷ stringListBytes ts))

@@ -13,12 +13,12 @@ use Rattle.wal_types.specs.declared.Refusal.the-variants.{Short}
 use Rattle.wal_types.specs.Terms.{offset}
 use Rattle.body_format.specs.declared.EntryAnswer.the-variants.{End}
 use Rattle.body_format.specs.declared.StringAnswer.the-variants.{Found as StringFound}
-use Rattle.body_format.specs.Fields.{Field, got, fault, andThen, byteAt, fixedAt, uvarintAt, varintAt, Text, textAt, textsAt, textListAt}
-use Rattle.body_format.specs.Entries.{Kind, series, samples, tombstones, exemplars, metadata, known, kindOf, hasRows, Entry, rowAt, seriesAt, sampleAt, tombstoneAt, exemplarAt, metadataAt, entryAt, entriesFrom, firstAt, entries}
+use Rattle.body_format.specs.Fields.{Field, got, fault, andThen, byteAt, fixedAt, uvarintAt, varintAt, StringField, stringAt, stringsAt, stringListAt}
+use Rattle.body_format.specs.Entries.{BodyType, series, samples, tombstones, exemplars, metadata, known, bodyTypeOf, hasRows, Entry, rowAt, seriesAt, sampleAt, tombstoneAt, exemplarAt, metadataAt, entryAt, entriesFrom, firstAt, entries}
 use Rattle.body_format.specs.Reading.{answerEntry, entryOrEnd, firstEntry, readEntry, answerString, readString}
 use Rattle.body_format.specs.Calls.{Strings, stringsOf, Walks}
 use Rattle.body_format.specs.Calls.Walks.{next, done}
-use Rattle.body_format.specs.Laws.Bounds.{Every, every-then, every-both, of-got, byte-ahead, fixed-ahead, uvarint-ahead, varint-ahead, text-ahead, row-ahead, entry-ahead}
+use Rattle.body_format.specs.Laws.Bounds.{Every, every-then, every-both, of-got, byte-ahead, fixed-ahead, uvarint-ahead, varint-ahead, string-ahead, row-ahead, entry-ahead}
 use Rattle.body_format.specs.Laws.Lists.{entries-end, entries-suc, first-bounds}
 use Rattle.body_format.specs.Laws.Places.{known-first, known-later}
 
@@ -28,73 +28,73 @@ every-self (got a q) = refl
 every-self (fault why) = tt
 
 -- the bytes of a string stand where it starts, and it ends behind them
-text-bytes : (s : List ℕ) (p : ℕ) → Every (λ t q. (take (length (t .bytes)) (drop (t .start) s) ≡ t .bytes) × (q ≡ t .start + length (t .bytes))) (textAt s p)
-unfolding textAt
-text-bytes s p = every-then (λ n q. (p + 1 ≤ q) × (q ≤ length s)) _ (uvarintAt s p) _ (uvarint-ahead s p) (λ n q l. go n q (ltb (length (drop q s)) n) refl)
+string-bytes : (s : List ℕ) (p : ℕ) → Every (λ t q. (take (length (t .bytes)) (drop (t .start) s) ≡ t .bytes) × (q ≡ t .start + length (t .bytes))) (stringAt s p)
+unfolding stringAt
+string-bytes s p = every-then (λ n q. (p + 1 ≤ q) × (q ≤ length s)) _ (uvarintAt s p) _ (uvarint-ahead s p) (λ n q l. go n q (ltb (length (drop q s)) n) refl)
   where
     go : (n q : ℕ) (b : Bool) → ltb (length (drop q s)) n ≡ b
-        → Every {A = Text} (λ t r. (take (length (t .bytes)) (drop (t .start) s) ≡ t .bytes) × (r ≡ t .start + length (t .bytes)))
+        → Every {A = StringField} (λ t r. (take (length (t .bytes)) (drop (t .start) s) ≡ t .bytes) × (r ≡ t .start + length (t .bytes)))
         (cond b (fault (Short (offset p))) (got (record { start = q; bytes = take n (drop q s) }) (q + n)))
     go n q true e = tt
     go n q false e =
         let l : length (take n (drop q s)) ≡ n = length-take-le n (drop q s) (ltb-false (length (drop q s)) n e) in
         rw l (refl, refl)
 
-module _ (b : ℕ) (s : List ℕ) (k : Kind) (type : kindOf b ≡ known k) where
+module _ (b : ℕ) (s : List ℕ) (k : BodyType) (type : bodyTypeOf b ≡ known k) where
   -- ---- strings
 
   -- at a place within the body
-  pub string-at : (p : ℕ) → 1 ≤ p → p ≤ length (b ∷ s) → readString (b ∷ s) p ≡ answerString (textAt (b ∷ s) p)
+  pub string-at : (p : ℕ) → 1 ≤ p → p ≤ length (b ∷ s) → readString (b ∷ s) p ≡ answerString (stringAt (b ∷ s) p)
   unfolding readString
   string-at p h l = rw (type, ne-eqb p 0 (omega arith), le-ltb (length (b ∷ s)) p l)
 
   -- one string is read with its start and length
   string-told : (p : ℕ) → 1 ≤ p
       → Every (λ t q. (readString (b ∷ s) p ≡ StringFound (offset (t .start)) (length (t .bytes)))
-      × (take (length (t .bytes)) (drop (t .start) (b ∷ s)) ≡ t .bytes) × (q ≡ t .start + length (t .bytes)) × (p + 1 ≤ q)) (textAt (b ∷ s) p)
+      × (take (length (t .bytes)) (drop (t .start) (b ∷ s)) ≡ t .bytes) × (q ≡ t .start + length (t .bytes)) × (p + 1 ≤ q)) (stringAt (b ∷ s) p)
   string-told p h =
-      told (textAt (b ∷ s) p) (text-ahead (b ∷ s) p) (text-bytes (b ∷ s) p) refl
+      told (stringAt (b ∷ s) p) (string-ahead (b ∷ s) p) (string-bytes (b ∷ s) p) refl
     where
-      told : (x : Field Text) → Every (λ t q. (p + 1 ≤ q) × (q ≤ length (b ∷ s))) x
+      told : (x : Field StringField) → Every (λ t q. (p + 1 ≤ q) × (q ≤ length (b ∷ s))) x
           → Every (λ t q. (take (length (t .bytes)) (drop (t .start) (b ∷ s)) ≡ t .bytes) × (q ≡ t .start + length (t .bytes))) x
-          → textAt (b ∷ s) p ≡ x
+          → stringAt (b ∷ s) p ≡ x
           → Every (λ t q. (readString (b ∷ s) p ≡ StringFound (offset (t .start)) (length (t .bytes)))
           × (take (length (t .bytes)) (drop (t .start) (b ∷ s)) ≡ t .bytes) × (q ≡ t .start + length (t .bytes)) × (p + 1 ≤ q)) x
       told (got t q) (l, m) (i, j) e = (string-at p h (omega arith) ∙ ap answerString e, i, j, l)
       told (fault why) l i e = tt
 
-  texts-walk : (n p : ℕ) → 1 ≤ p → Every (λ ts r. Strings readString (b ∷ s) p ts) (textsAt n (b ∷ s) p)
-  unfolding textsAt
-  texts-walk zero p h = tt
-  texts-walk (suc n) p h =
-      every-then _ _ (textAt (b ∷ s) p) _ (string-told p h)
-      (λ t q l. every-then (λ ts r. Strings readString (b ∷ s) q ts) _ (textsAt n (b ∷ s) q) _ (texts-walk n q (omega arith))
+  strings-walk : (n p : ℕ) → 1 ≤ p → Every (λ ts r. Strings readString (b ∷ s) p ts) (stringsAt n (b ∷ s) p)
+  unfolding stringsAt
+  strings-walk zero p h = tt
+  strings-walk (suc n) p h =
+      every-then _ _ (stringAt (b ∷ s) p) _ (string-told p h)
+      (λ t q l. every-then (λ ts r. Strings readString (b ∷ s) q ts) _ (stringsAt n (b ∷ s) q) _ (strings-walk n q (omega arith))
       (λ ts r w. (t .start, l .0, l .1, subst (λ (at : ℕ). Strings readString (b ∷ s) at ts) (l .2) w)))
 
-  list-walk : (p : ℕ) → Every (λ l r. Strings readString (b ∷ s) (l .first) (l .strings)) (textListAt (b ∷ s) p)
-  unfolding textListAt
+  list-walk : (p : ℕ) → Every (λ l r. Strings readString (b ∷ s) (l .first) (l .strings)) (stringListAt (b ∷ s) p)
+  unfolding stringListAt
   list-walk p =
       every-then (λ n q. (p + 1 ≤ q) × (q ≤ length (b ∷ s))) _ (uvarintAt (b ∷ s) p) _ (uvarint-ahead (b ∷ s) p)
-      (λ n q l. every-then (λ ts r. Strings readString (b ∷ s) q ts) _ (textsAt (2 * n) (b ∷ s) q) _ (texts-walk (2 * n) q (omega arith)) (λ ts r w. w))
+      (λ n q l. every-then (λ ts r. Strings readString (b ∷ s) q ts) _ (stringsAt (2 * n) (b ∷ s) q) _ (strings-walk (2 * n) q (omega arith)) (λ ts r w. w))
 
   -- the strings of an entry, from the place where they begin
-  strings-walk : (j : Kind) (p : ℕ) → Every (λ e q. Strings readString (b ∷ s) (e .first) (stringsOf (e .entry))) (entryAt j (b ∷ s) p)
+  entry-strings : (j : BodyType) (p : ℕ) → Every (λ e q. Strings readString (b ∷ s) (e .first) (stringsOf (e .entry))) (entryAt j (b ∷ s) p)
   unfolding seriesAt sampleAt tombstoneAt exemplarAt metadataAt
-  strings-walk series p =
+  entry-strings series p =
       every-then _ _ (fixedAt (b ∷ s) p) _ (fixed-ahead (b ∷ s) p)
-      (λ id q h. every-then _ _ (textListAt (b ∷ s) q) _ (list-walk q) (λ l r w. w))
-  strings-walk samples p = every-then _ _ (rowAt (b ∷ s) p) _ (row-ahead (b ∷ s) p) (λ w q h. tt)
-  strings-walk tombstones p =
+      (λ id q h. every-then _ _ (stringListAt (b ∷ s) q) _ (list-walk q) (λ l r w. w))
+  entry-strings samples p = every-then _ _ (rowAt (b ∷ s) p) _ (row-ahead (b ∷ s) p) (λ w q h. tt)
+  entry-strings tombstones p =
       every-then _ _ (fixedAt (b ∷ s) p) _ (fixed-ahead (b ∷ s) p)
       (λ id q h. every-then _ _ (varintAt (b ∷ s) q) _ (varint-ahead (b ∷ s) q)
       (λ min r i. every-then _ _ (varintAt (b ∷ s) r) _ (varint-ahead (b ∷ s) r) (λ max z j. tt)))
-  strings-walk exemplars p =
+  entry-strings exemplars p =
       every-then _ _ (rowAt (b ∷ s) p) _ (row-ahead (b ∷ s) p)
-      (λ w q h. every-then _ _ (textListAt (b ∷ s) q) _ (list-walk q) (λ l r z. z))
-  strings-walk metadata p =
+      (λ w q h. every-then _ _ (stringListAt (b ∷ s) q) _ (list-walk q) (λ l r z. z))
+  entry-strings metadata p =
       every-then _ _ (uvarintAt (b ∷ s) p) _ (uvarint-ahead (b ∷ s) p)
       (λ id q h. every-then _ _ (byteAt (b ∷ s) q) _ (byte-ahead (b ∷ s) q)
-      (λ metric r i. every-then _ _ (textListAt (b ∷ s) r) _ (list-walk r) (λ l z w. w)))
+      (λ metric r i. every-then _ _ (stringListAt (b ∷ s) r) _ (list-walk r) (λ l z w. w)))
 
   -- ---- entries
 
@@ -139,7 +139,7 @@ module _ (b : ℕ) (s : List ℕ) (k : Kind) (type : kindOf b ≡ known k) where
           rw (entries-suc k (b ∷ s) n from lt)
           (every-then _ _ (entryAt k (b ∷ s) from) _
           (every-both (λ d q. (from + 1 ≤ q) × (q ≤ length (b ∷ s))) _ (entryAt k (b ∷ s) from) (entry-ahead (b ∷ s) k from)
-          (every-both _ _ (entryAt k (b ∷ s) from) (every-self (entryAt k (b ∷ s) from)) (strings-walk k from)))
+          (every-both _ _ (entryAt k (b ∷ s) from) (every-self (entryAt k (b ∷ s) from)) (entry-strings k from)))
           (λ d q w. every-then (λ es z. Walks readEntry readString (b ∷ s) q es) _ (entriesFrom n k (b ∷ s) q) _
           (ih q q (entry-later q (omega arith) (w .0 .1) (λ x. omega (arith, r x lt))) (omega arith) (w .0 .1) (omega arith) (λ x y. omega (arith, r x lt)))
           (λ es z rest. next (d .first) (e ∙ before-end from lt ∙ ap answerEntry (w .1 .0)) (w .1 .1) rest)))

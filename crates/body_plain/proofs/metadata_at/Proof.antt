@@ -13,7 +13,7 @@ returns c =
     metadata-all _ _
     (number-got _ _ (first .uvarint-at .ensures) (second .before .before .id .given .1))
     (number-got _ _ (second .byte-at .ensures) (third .before .before .metric .given .1))
-    (list-got _ _ (third .text-list-at .ensures) (c .before .count .given .1))
+    (list-got _ _ (third .string-list-at .ensures) (c .before .count .given .1))
 
 returns-2 : tie.Need-returns-2
 returns-2 c =
@@ -23,7 +23,7 @@ returns-2 c =
     metadata-3 _ _
     (number-got _ _ (first .uvarint-at .ensures) (second .before .before .id .given .1))
     (number-got _ _ (second .byte-at .ensures) (third .before .before .metric .given .1))
-    (list-fault _ _ (third .text-list-at .ensures) (c .before .why .given .1))
+    (list-fault _ _ (third .string-list-at .ensures) (c .before .why .given .1))
 
 returns-3 : tie.Need-returns-3
 returns-3 c =

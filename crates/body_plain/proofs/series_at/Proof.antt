@@ -11,7 +11,7 @@ returns c =
     let first = second .before .before .before .before in
     series-all _ _
     (number-got _ _ (first .fixed-at .ensures) (second .before .before .id .given .1))
-    (list-got _ _ (second .text-list-at .ensures) (c .before .count .given .1))
+    (list-got _ _ (second .string-list-at .ensures) (c .before .count .given .1))
 
 returns-2 : tie.Need-returns-2
 returns-2 c =
@@ -19,7 +19,7 @@ returns-2 c =
     let first = second .before .before .before .before in
     series-2 _ _
     (number-got _ _ (first .fixed-at .ensures) (second .before .before .id .given .1))
-    (list-fault _ _ (second .text-list-at .ensures) (c .before .why .given .1))
+    (list-fault _ _ (second .string-list-at .ensures) (c .before .why .given .1))
 
 returns-3 : tie.Need-returns-3
 returns-3 c = series-1 _ _ (number-fault _ _ (c .before .before .before .fixed-at .ensures) (c .before .why2 .given .1))

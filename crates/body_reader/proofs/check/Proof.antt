@@ -6,17 +6,17 @@ use mathlib.Core.List.{List}
 use Rattle.body_format.specs.declared.CheckAnswer.the-variants.{Refused as CheckRefused}
 use Rattle.body_format.specs.Entries.{known, hasRows}
 use Rattle.body_format.specs.Reading.{checkKnown, checkBody}
-use Rattle.body_reader.specs.declared.kinds.BodyKind.{BodyKind}
-use Rattle.body_reader.specs.declared.kinds.TypeRead.{TypeRead}
-use Rattle.body_reader.specs.declared.kinds.TypeRead.the-variants as type
-use Rattle.body_reader.specs.Kinds.{kindIn, typeRead}
+use Rattle.body_reader.specs.declared.tags.BodyLayout.{BodyLayout}
+use Rattle.body_reader.specs.declared.tags.TypeRead.{TypeRead}
+use Rattle.body_reader.specs.declared.tags.TypeRead.the-variants as type
+use Rattle.body_reader.specs.Layouts.{typeIn, typeRead}
 use Rattle.body_reader.proofs.Types.{byType, check-type, known-some}
 use Rattle.body_reader.proofs.Reading.{place-at, place-fault, check-all, check-fault, first-inside}
 use Rattle.body_reader.proofs.check.Statement.{statement}
 use Rattle.body_reader.proofs.check.Tie as tie
 
-known-check : (s : List ℕ) {r : TypeRead} {k : BodyKind} → r ≡ typeRead s → r ≡ type.Known k
-    → checkBody s ≡ checkKnown (known (kindIn k)) s
+known-check : (s : List ℕ) {r : TypeRead} {k : BodyLayout} → r ≡ typeRead s → r ≡ type.Known k
+    → checkBody s ≡ checkKnown (known (typeIn k)) s
 known-check s e g = check-type s ∙ ap (byType CheckRefused (λ k. checkKnown (known k) s)) (sym e ∙ g)
 
 count-entries-requires : tie.Need-count-entries-requires
@@ -25,8 +25,8 @@ count-entries-requires c κs =
     let found = begin .before .before in
     let type = found .before .before in
     let body = type .before .before .args .body .now in
-    first-inside (hasRows (kindIn (found .kind .given .0 .0))) body
-    (known-some body _ (type .body-type .ensures) (found .kind .given .1))
+    first-inside (hasRows (typeIn (found .tag .given .0 .0))) body
+    (known-some body _ (type .body-type .ensures) (found .tag .given .1))
     (place-at _ _ (begin .entries-begin .ensures) (c .before .first .given .1))
 
 returns : tie.Need-returns
@@ -36,8 +36,8 @@ returns c =
     let type = found .before .before in
     let body = type .before .before .args .body .now in
     c .count-entries .ensures
-    ∙ check-all (kindIn (found .kind .given .0 .0)) body
-    (known-check body (type .body-type .ensures) (found .kind .given .1))
+    ∙ check-all (typeIn (found .tag .given .0 .0)) body
+    (known-check body (type .body-type .ensures) (found .tag .given .1))
     (place-at _ _ (begin .entries-begin .ensures) (c .before .before .first .given .1))
 
 returns-2 : tie.Need-returns-2
@@ -46,8 +46,8 @@ returns-2 c =
     let found = begin .before .before in
     let type = found .before .before in
     let body = type .before .before .args .body .now in
-    check-fault (kindIn (found .kind .given .0 .0)) body
-    (known-check body (type .body-type .ensures) (found .kind .given .1))
+    check-fault (typeIn (found .tag .given .0 .0)) body
+    (known-check body (type .body-type .ensures) (found .tag .given .1))
     (place-fault _ _ (begin .entries-begin .ensures) (c .before .why .given .1))
 
 returns-3 : tie.Need-returns-3

@@ -6,16 +6,16 @@ use mathlib.Core.List.{List}
 use Rattle.body_format.specs.declared.EntryAnswer.the-variants.{Refused as EntryRefused}
 use Rattle.body_format.specs.Entries.{known}
 use Rattle.body_format.specs.Reading.{entryKnown, readEntry}
-use Rattle.body_reader.specs.declared.kinds.BodyKind.{BodyKind}
-use Rattle.body_reader.specs.declared.kinds.TypeRead.{TypeRead}
-use Rattle.body_reader.specs.declared.kinds.TypeRead.the-variants as type
-use Rattle.body_reader.specs.Kinds.{kindIn, typeRead}
+use Rattle.body_reader.specs.declared.tags.BodyLayout.{BodyLayout}
+use Rattle.body_reader.specs.declared.tags.TypeRead.{TypeRead}
+use Rattle.body_reader.specs.declared.tags.TypeRead.the-variants as type
+use Rattle.body_reader.specs.Layouts.{typeIn, typeRead}
 use Rattle.body_reader.proofs.Types.{byType, entry-type}
 use Rattle.body_reader.proofs.entry_at.Statement.{statement}
 use Rattle.body_reader.proofs.entry_at.Tie as tie
 
-known-entry : (s : List ℕ) (p : ℕ) {r : TypeRead} {k l : BodyKind} → r ≡ typeRead s → r ≡ type.Known k → k ≡ l
-    → readEntry s p ≡ entryKnown (known (kindIn l)) s p
+known-entry : (s : List ℕ) (p : ℕ) {r : TypeRead} {k l : BodyLayout} → r ≡ typeRead s → r ≡ type.Known k → k ≡ l
+    → readEntry s p ≡ entryKnown (known (typeIn l)) s p
 known-entry s p e g h =
     entry-type s p ∙ ap (byType EntryRefused (λ k. entryKnown (known k) s p)) (sym e ∙ g ∙ ap type.Known h)
 
@@ -24,14 +24,14 @@ returns c =
     let found = c .before .before .before .before .before in
     let type = found .before .before in
     c .row-entry .ensures
-    ∙ sym (known-entry _ _ (type .body-type .ensures) (found .kind .given .1) (c .before .before .kind2 .given .1))
+    ∙ sym (known-entry _ _ (type .body-type .ensures) (found .tag .given .1) (c .before .before .tag2 .given .1))
 
 returns-2 : tie.Need-returns-2
 returns-2 c =
     let found = c .before .before .before .before .before in
     let type = found .before .before in
     c .plain-entry .ensures
-    ∙ sym (known-entry _ _ (type .body-type .ensures) (found .kind .given .1) (c .before .before .kind3 .given .1))
+    ∙ sym (known-entry _ _ (type .body-type .ensures) (found .tag .given .1) (c .before .before .tag3 .given .1))
 
 returns-3 : tie.Need-returns-3
 returns-3 c =

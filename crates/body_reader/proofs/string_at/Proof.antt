@@ -5,21 +5,21 @@ use mathlib.Core.Path.{_≡_, sym, ap, _∙_}
 use mathlib.Core.List.{List}
 use borrow.Author.Tests.{lt-ltb, le-ltb, eq-eqb, ne-eqb}
 use Rattle.body_format.specs.declared.StringAnswer.the-variants.{Refused as StringRefused}
-use Rattle.body_format.specs.Fields.{textAt}
+use Rattle.body_format.specs.Fields.{stringAt}
 use Rattle.body_format.specs.Entries.{known}
 use Rattle.body_format.specs.Reading.{stringKnown, readString}
-use Rattle.body_reader.specs.declared.kinds.BodyKind.{BodyKind}
-use Rattle.body_reader.specs.declared.kinds.TypeRead.{TypeRead}
-use Rattle.body_reader.specs.declared.kinds.TypeRead.the-variants as type
-use Rattle.body_reader.specs.Kinds.{kindIn, typeRead}
-use Rattle.body_fields.specs.Laws.{text-told, text-faulty}
+use Rattle.body_reader.specs.declared.tags.BodyLayout.{BodyLayout}
+use Rattle.body_reader.specs.declared.tags.TypeRead.{TypeRead}
+use Rattle.body_reader.specs.declared.tags.TypeRead.the-variants as type
+use Rattle.body_reader.specs.Layouts.{typeIn, typeRead}
+use Rattle.body_fields.specs.Laws.{string-told, string-faulty}
 use Rattle.body_reader.proofs.Types.{byType, string-type}
 use Rattle.body_reader.proofs.Reading.{string-found, string-refused}
 use Rattle.body_reader.proofs.string_at.Statement.{statement}
 use Rattle.body_reader.proofs.string_at.Tie as tie
 
-known-string : (s : List ℕ) (p : ℕ) {r : TypeRead} {k : BodyKind} → r ≡ typeRead s → r ≡ type.Known k
-    → readString s p ≡ stringKnown (known (kindIn k)) s p
+known-string : (s : List ℕ) (p : ℕ) {r : TypeRead} {k : BodyLayout} → r ≡ typeRead s → r ≡ type.Known k
+    → readString s p ≡ stringKnown (known (typeIn k)) s p
 known-string s p e g =
     string-type s p ∙ ap (byType StringRefused (λ k. stringKnown (known k) s p)) (sym e ∙ g)
 
@@ -49,8 +49,8 @@ returns-3 c =
       ne-eqb _ _ (tested .before .if1 .left),
       le-ltb _ _ (tested .if2 .left),
     )
-    (string-found (textAt (a .body .now) (a .place .0))
-    (text-told _ _ (text .text-at .ensures) (c .before .start .given .1)))
+    (string-found (stringAt (a .body .now) (a .place .0))
+    (string-told _ _ (text .string-field-at .ensures) (c .before .start .given .1)))
 
 returns-4 : tie.Need-returns-4
 returns-4 c =
@@ -64,8 +64,8 @@ returns-4 c =
       ne-eqb _ _ (tested .before .if1 .left),
       le-ltb _ _ (tested .if2 .left),
     )
-    (string-refused (textAt (a .body .now) (a .place .0))
-    (text-faulty _ _ (text .text-at .ensures) (c .before .why .given .1)))
+    (string-refused (stringAt (a .body .now) (a .place .0))
+    (string-faulty _ _ (text .string-field-at .ensures) (c .before .why .given .1)))
 
 returns-5 : tie.Need-returns-5
 returns-5 c =

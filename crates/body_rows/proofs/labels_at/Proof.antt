@@ -4,7 +4,7 @@ use Rattle.body_rows.proofs.labels_at.Statement.{statement}
 use Rattle.body_rows.proofs.labels_at.Tie as tie
 
 returns : tie.Need-returns
-returns c = rw (c .before .if1 .taken) (c .text-list-at .ensures)
+returns c = rw (c .before .if1 .taken) (c .string-list-at .ensures)
 
 returns-2 : tie.Need-returns-2
 returns-2 c = rw (c .if1 .left)

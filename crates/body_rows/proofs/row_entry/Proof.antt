@@ -7,7 +7,7 @@ use borrow.Author.Tests.{eq-eqb, ne-eqb}
 use lib.ListN.{length}
 use Rattle.body_format.specs.Entries.{known}
 use Rattle.body_format.specs.Reading.{entryOrEnd, entryKnown}
-use Rattle.body_rows.specs.Rows.{rowsKind}
+use Rattle.body_rows.specs.Rows.{rowsType}
 use Rattle.body_rows.specs.Laws.{rows-rows}
 use Rattle.body_rows.proofs.Placing.{row-low, row-past, row-here}
 use Rattle.body_rows.proofs.row_entry.Statement.{statement}
@@ -31,7 +31,7 @@ returns-3 c =
 -- a row, or the end, at the place for this one
 here : (c : tie.Else3) →
     let a = c .before .before .before .before .before .args in
-    let k = rowsKind (a .labelled) in
+    let k = rowsType (a .labelled) in
     entryKnown (known k) (a .body .now) (a .at) ≡ entryOrEnd k (a .body .now) (c .before .before .row-place .result)
 here c =
     let a = c .before .before .before .before .before .args in
@@ -39,7 +39,7 @@ here c =
     row-here _ (a .body .now) (a .at) (rows-rows (a .labelled)) (omega arith)
     (subst (λ (q : ℕ). 17 ≤ q) e (c .before .if2 .left))
     (subst (λ (q : ℕ). q ≤ length (a .body .now)) e (c .if3 .left))
-    ∙ ap (entryOrEnd (rowsKind (a .labelled)) (a .body .now)) (sym e)
+    ∙ ap (entryOrEnd (rowsType (a .labelled)) (a .body .now)) (sym e)
 
 returns-4 : tie.Need-returns-4
 unfolding entryOrEnd

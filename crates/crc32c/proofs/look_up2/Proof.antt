@@ -1,7 +1,7 @@
 -- Two bytes by a lent table.
 use borrow.Author.Needs.{needs}
 use mathlib.Core.Path.{refl}
-use Rattle.crc32c_format.specs.Lent.{lookUp2}
+use Rattle.crc32c_format.specs.TableSum.{lookUp2}
 use Rattle.crc32c.proofs.look_up2.Statement.{statement}
 use Rattle.crc32c.proofs.look_up2.Tie as tie
 

@@ -1,7 +1,7 @@
 -- Four bytes by a lent table.
 use borrow.Author.Needs.{needs}
 use mathlib.Core.Path.{ap₂}
-use Rattle.crc32c_format.specs.Lent.{lookUp4}
+use Rattle.crc32c_format.specs.TableSum.{lookUp4}
 use lib.Bits.{bitXor}
 use Rattle.crc32c.proofs.look_up4.Statement.{statement}
 use Rattle.crc32c.proofs.look_up4.Tie as tie

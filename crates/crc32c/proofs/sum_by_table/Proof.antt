@@ -4,7 +4,7 @@ use Prim.Native.Nat.{ℕ}
 use mathlib.Core.List.{List}
 use mathlib.Core.Path.{ap₂, _∙_}
 use lib.Bits.{bitXor}
-use Rattle.crc32c_format.specs.Lent.{tableRegister}
+use Rattle.crc32c_format.specs.TableSum.{tableRegister}
 use Rattle.crc32c_format.specs.Laws.{whole-part}
 use Rattle.crc32c.proofs.sum_by_table.Statement.{statement}
 use Rattle.crc32c.proofs.sum_by_table.Tie as tie

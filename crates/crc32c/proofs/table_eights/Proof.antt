@@ -4,7 +4,7 @@ use native.Mathlib.Omega.{arith}
 use Prim.Native.Nat.{ℕ, _+_, _-_, _/_, _≤_}
 use mathlib.Core.Path.{_≡_, sym, ap, _∙_}
 use lib.ListN.{length, drop}
-use Rattle.crc32c_format.specs.Lent.{steps, tableStep8}
+use Rattle.crc32c_format.specs.TableSum.{steps, tableStep8}
 use Rattle.crc32c_format.specs.Method.Slicing.{steps-more, steps-none}
 use Rattle.crc32c.proofs.table_eights.Statement.{statement}
 use Rattle.crc32c.proofs.table_eights.Tie as tie

@@ -3,7 +3,7 @@ use borrow.Author.Needs.{needs}
 use native.Mathlib.Omega.{arith}
 use mathlib.Core.Path.{sym, _∙_}
 use lib.ListN.{drop}
-use Rattle.crc32c_format.specs.Lent.{tableStep4}
+use Rattle.crc32c_format.specs.TableSum.{tableStep4}
 use Rattle.crc32c_format.specs.Method.Slicing.{steps-once, steps-none}
 use Rattle.crc32c.proofs.table_four.Statement.{statement}
 use Rattle.crc32c.proofs.table_four.Tie as tie

@@ -4,7 +4,7 @@ use native.Mathlib.Omega.{arith}
 use Prim.Native.Nat.{_+_, _-_, _≤_}
 use mathlib.Core.Path.{_≡_, sym, _∙_}
 use lib.ListN.{length, drop}
-use Rattle.crc32c_format.specs.Lent.{steps, tableStep1}
+use Rattle.crc32c_format.specs.TableSum.{steps, tableStep1}
 use Rattle.crc32c_format.specs.Method.Slicing.{steps-more, steps-none}
 use Rattle.crc32c.proofs.table_singles.Statement.{statement}
 use Rattle.crc32c.proofs.table_singles.Tie as tie

@@ -2,7 +2,7 @@
 use borrow.Author.Needs.{needs}
 use Prim.Native.Nat.{ℕ}
 use mathlib.Core.Path.{ap, _∙_}
-use Rattle.crc32c_format.specs.Lent.{lookUp4, tableStep4}
+use Rattle.crc32c_format.specs.TableSum.{lookUp4, tableStep4}
 use lib.Bits.{bitXor}
 use Rattle.crc32c.proofs.table_step4.Statement.{statement}
 use Rattle.crc32c.proofs.table_step4.Tie as tie

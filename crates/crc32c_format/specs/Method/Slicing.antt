@@ -10,7 +10,7 @@ use lib.Seq.{getD-drop, take-add, drop-drop}
 use Rattle.crc32c_format.specs.Crc.{bitSteps, register}
 use Rattle.crc32c_format.specs.Bytes.{littleEndian}
 use Rattle.crc32c_format.specs.Table.{sliceTable}
-use Rattle.crc32c_format.specs.Lent.{lookUp2, lookUp4, tableStep1, tableStep4, tableStep8, steps, tableRegister}
+use Rattle.crc32c_format.specs.TableSum.{lookUp2, lookUp4, tableStep1, tableStep4, tableStep8, steps, tableRegister}
 use Rattle.crc32c_format.specs.Method.Steps.{bitSteps-split, left-halves, register-append, register-lt}
 use Rattle.crc32c_format.specs.Method.Parts.{register-part, register-one, register-eight, register-take, littleEndian-lt}
 use Rattle.crc32c_format.specs.Method.Tables.{slice-at}

@@ -2,13 +2,13 @@
 -- Assumes nothing.
 use borrow.Author.Needs.{needs}
 use mathlib.Core.Path.{ap, _∙_}
-use Rattle.c_answers.specs.Bodies.{addedCode, addedOut}
+use Rattle.depot_wal_results.specs.Bodies.{addedCode, addedOut}
 use Rattle.depot_wal_bodies.proofs.depot_wal_add_metadata.Statement.{statement}
 use Rattle.depot_wal_bodies.proofs.depot_wal_add_metadata.Tie as tie
 
 returns : tie.Need-returns
 returns c =
-    let told = c .tell-added .ensures in
+    let told = c .build-result .ensures in
     let answer = c .before .before .before .before .add-metadata .ensures .0 in
     let bytes = c .before .before .before .before .add-metadata .ensures .1 in
     (told .0 ∙ ap addedCode answer, told .1 ∙ ap (addedOut (c .before .before .before .before .before .before .before .before .before .args .used)) answer, bytes)

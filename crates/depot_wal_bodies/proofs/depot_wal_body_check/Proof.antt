@@ -2,13 +2,13 @@
 -- Assumes nothing.
 use borrow.Author.Needs.{needs}
 use mathlib.Core.Path.{ap, _∙_}
-use Rattle.c_answers.specs.Bodies.{checkCode, checkOut}
+use Rattle.depot_wal_results.specs.Bodies.{checkCode, checkOut}
 use Rattle.depot_wal_bodies.proofs.depot_wal_body_check.Statement.{statement}
 use Rattle.depot_wal_bodies.proofs.depot_wal_body_check.Tie as tie
 
 returns : tie.Need-returns
 returns c =
-    let told = c .tell-check .ensures in
+    let told = c .check-result .ensures in
     let done = c .before .before .check .ensures in
     (told .0 ∙ ap checkCode done, told .1 ∙ ap checkOut done)
 

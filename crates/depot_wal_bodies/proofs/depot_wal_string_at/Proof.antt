@@ -2,13 +2,13 @@
 -- Assumes nothing.
 use borrow.Author.Needs.{needs}
 use mathlib.Core.Path.{ap, _∙_}
-use Rattle.c_answers.specs.Bodies.{stringCode, stringOut}
+use Rattle.depot_wal_results.specs.Bodies.{stringCode, stringOut}
 use Rattle.depot_wal_bodies.proofs.depot_wal_string_at.Statement.{statement}
 use Rattle.depot_wal_bodies.proofs.depot_wal_string_at.Tie as tie
 
 returns : tie.Need-returns
 returns c =
-    let told = c .tell-string .ensures in
+    let told = c .string-result .ensures in
     let done = c .before .before .string-at .ensures in
     (told .0 ∙ ap stringCode done, told .1 ∙ ap stringOut done)
 

@@ -2,7 +2,7 @@
 use borrow.Author.Needs.{needs}
 use native.Mathlib.Omega.{arith}
 use mathlib.Core.Path.{sym, _∙_}
-use Rattle.copying.specs.PutLaws.{put-fits, put-not, end-fits, end-not}
+use Rattle.byte_copy.specs.PutLaws.{put-fits, put-not, end-fits, end-not}
 use Rattle.uvarint.proofs.put_uvarint.Statement.{statement}
 use Rattle.uvarint.proofs.put_uvarint.Tie as tie
 

@@ -3,7 +3,7 @@ use borrow.Author.Needs.{needs}
 use Prim.Native.Nat.{ℕ}
 use mathlib.Core.Path.{ap, _∙_}
 use mir.Facts.{toZ-ofZ}
-use Rattle.copying.specs.Put.{putAt, putEnd}
+use Rattle.byte_copy.specs.Put.{putAt, putEnd}
 use Rattle.uvarint.specs.Uvarint.{uvarint}
 use Rattle.varint.specs.Varint.{zigzag, varint}
 use Rattle.varint.proofs.put_varint.Statement.{statement}

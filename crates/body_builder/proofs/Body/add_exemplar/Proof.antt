@@ -8,7 +8,7 @@ use mathlib.Core.List.{List, _++_}
 use lib.ListN.{length, length-append}
 use Rattle.wal_types.specs.Deltas.{toBits}
 use Rattle.body_format.specs.Entries.{exemplarEntry, Entry}
-use Rattle.body_format.specs.Building.{entryBytes, rowBytes, textListBytes, cutTexts, badList}
+use Rattle.body_format.specs.Building.{entryBytes, rowBytes, stringListBytes, cutStrings, badList}
 use Rattle.body_builder.specs.Sizes.{gateFor, decided}
 use Rattle.body_builder.proofs.Putting.{room-then, put-then}
 use Rattle.body_builder.proofs.Sizing.{Sized, good-sum, row-sized}
@@ -17,7 +17,7 @@ use Rattle.body_builder.proofs.Body.add_exemplar.Statement.{statement}
 use Rattle.body_builder.proofs.Body.add_exemplar.Tie as tie
 
 abbrev entry : tie.Start → Entry
-entry s = exemplarEntry (s .args .id .0) (s .args .time .0) (s .args .bits) (cutTexts (s .args .strings .now) (s .args .lengths .now))
+entry s = exemplarEntry (s .args .id .0) (s .args .time .0) (s .args .bits) (cutStrings (s .args .strings .now) (s .args .lengths .now))
 
 abbrev bad : tie.Start → Bool
 bad s = badList (s .args .strings .now) (s .args .lengths .now)
@@ -26,7 +26,7 @@ abbrev row : tie.Start → List ℕ
 row s = rowBytes (s .args .buffer .now) (s .args .self .used .0) (s .args .id .0) (toBits (s .args .time .0)) (s .args .bits)
 
 abbrev list : tie.Start → List ℕ
-list s = textListBytes (cutTexts (s .args .strings .now) (s .args .lengths .now))
+list s = stringListBytes (cutStrings (s .args .strings .now) (s .args .lengths .now))
 
 sized : (c : tie.After-row-size) →
     let s = c .before .before .before .before .before .before .before .before in
@@ -42,12 +42,12 @@ sized c h =
 gate : (c : tie.After-admit) →
     let a = c .before .before .before .before .before .before .before .before .before .before .args in
     c .admit .result
-    ≡ gateFor (decided (a .buffer .now) (a .self .kind) (a .self .used .0) 4 (bad (c .before .before .before .before .before .before .before .before .before .before)) (c .before .before .row-size .result + c .before .before .before .list-size .result))
+    ≡ gateFor (decided (a .buffer .now) (a .self .tag) (a .self .used .0) 4 (bad (c .before .before .before .before .before .before .before .before .before .before)) (c .before .before .row-size .result + c .before .before .before .list-size .result))
 gate c = rw (← c .before .before .before .before .before .before .list-is-bad .ensures) (c .admit .ensures)
 
 admitted : (c : tie.After-enum-told) →
     let s = c .before .before .before .before .before .before .before .before .before .before .before .before in
-    Opened (s .args .buffer .now) (s .args .self .kind) (s .args .self .used .0) (entry s) (bad s)
+    Opened (s .args .buffer .now) (s .args .self .tag) (s .args .self .used .0) (entry s) (bad s)
 admitted c = opened _ _ _ (entry (c .before .before .before .before .before .before .before .before .before .before .before .before)) (bad (c .before .before .before .before .before .before .before .before .before .before .before .before)) _ (sized (c .before .before .before .before)) _ (gate (c .before .before)) (c .enum-told .given .1)
 
 -- the room for the row and the list

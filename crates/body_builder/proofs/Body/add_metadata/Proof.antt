@@ -6,7 +6,7 @@ use mathlib.Core.Path.{_≡_, ap}
 use mathlib.Core.Bool.{Bool, false}
 use lib.ListN.{length}
 use Rattle.body_format.specs.Entries.{metadataEntry, Entry}
-use Rattle.body_format.specs.Building.{entryBytes, cutTexts, badList}
+use Rattle.body_format.specs.Building.{entryBytes, cutStrings, badList}
 use Rattle.body_builder.specs.Sizes.{gateFor, decided}
 use Rattle.body_builder.proofs.Sizing.{Sized, good-sum}
 use Rattle.body_builder.proofs.Adding.{Opened, opened, shut, finished, metadata-sized}
@@ -14,7 +14,7 @@ use Rattle.body_builder.proofs.Body.add_metadata.Statement.{statement}
 use Rattle.body_builder.proofs.Body.add_metadata.Tie as tie
 
 abbrev entry : tie.Start → Entry
-entry s = metadataEntry (s .args .id .0) (s .args .metric-type) (cutTexts (s .args .strings .now) (s .args .lengths .now))
+entry s = metadataEntry (s .args .id .0) (s .args .metric-type) (cutStrings (s .args .strings .now) (s .args .lengths .now))
 
 abbrev bad : tie.Start → Bool
 bad s = badList (s .args .strings .now) (s .args .lengths .now)
@@ -30,12 +30,12 @@ sized c h =
 gate : (c : tie.After-admit) →
     let a = c .before .before .before .before .before .before .before .before .args in
     c .admit .result
-    ≡ gateFor (decided (a .buffer .now) (a .self .kind) (a .self .used .0) 6 (bad (c .before .before .before .before .before .before .before .before)) (c .before .before .uvarint-len .result + 1 + c .before .before .before .list-size .result))
+    ≡ gateFor (decided (a .buffer .now) (a .self .tag) (a .self .used .0) 6 (bad (c .before .before .before .before .before .before .before .before)) (c .before .before .uvarint-len .result + 1 + c .before .before .before .list-size .result))
 gate c = rw (← c .before .before .before .before .list-is-bad .ensures) (c .admit .ensures)
 
 admitted : (c : tie.After-enum-told) →
     let s = c .before .before .before .before .before .before .before .before .before .before in
-    Opened (s .args .buffer .now) (s .args .self .kind) (s .args .self .used .0) (entry s) (bad s)
+    Opened (s .args .buffer .now) (s .args .self .tag) (s .args .self .used .0) (entry s) (bad s)
 admitted c = opened _ _ _ (entry (c .before .before .before .before .before .before .before .before .before .before)) (bad (c .before .before .before .before .before .before .before .before .before .before)) _ (sized (c .before .before .before .before)) _ (gate (c .before .before)) (c .enum-told .given .1)
 
 add-head : tie.Need-add-head

@@ -25,7 +25,7 @@ sized c h =
 
 admitted : (c : tie.After-enum-told) →
     let s = c .before .before .before .before .before .before .before .before in
-    Opened (s .args .buffer .now) (s .args .self .kind) (s .args .self .used .0) (entry s) false
+    Opened (s .args .buffer .now) (s .args .self .tag) (s .args .self .used .0) (entry s) false
 admitted c = opened _ _ _ (entry (c .before .before .before .before .before .before .before .before)) false _ (sized (c .before .before .before .before)) _ (c .before .before .admit .ensures) (c .enum-told .given .1)
 
 put-row-requires : tie.Need-put-row-requires

@@ -6,7 +6,7 @@ use mathlib.Core.Path.{_≡_}
 use mathlib.Core.Bool.{Bool, false}
 use lib.ListN.{length}
 use Rattle.body_format.specs.Entries.{seriesEntry, Entry}
-use Rattle.body_format.specs.Building.{entryBytes, cutTexts, badList}
+use Rattle.body_format.specs.Building.{entryBytes, cutStrings, badList}
 use Rattle.body_builder.specs.Sizes.{gateFor, decided}
 use Rattle.body_builder.proofs.Sizing.{Sized, good-sum}
 use Rattle.body_builder.proofs.Adding.{Opened, opened, shut, finished, series-sized}
@@ -14,7 +14,7 @@ use Rattle.body_builder.proofs.Body.add_series.Statement.{statement}
 use Rattle.body_builder.proofs.Body.add_series.Tie as tie
 
 abbrev entry : tie.Start → Entry
-entry s = seriesEntry (s .args .id .0) (cutTexts (s .args .strings .now) (s .args .lengths .now))
+entry s = seriesEntry (s .args .id .0) (cutStrings (s .args .strings .now) (s .args .lengths .now))
 
 abbrev bad : tie.Start → Bool
 bad s = badList (s .args .strings .now) (s .args .lengths .now)
@@ -27,12 +27,12 @@ sized c h = series-sized _ _ _ _ _ (c .list-size .ensures .0) h (c .before .befo
 -- the gate, with the definition's word on the list
 gate : (c : tie.After-admit) →
     let a = c .before .before .before .before .before .before .before .args in
-    c .admit .result ≡ gateFor (decided (a .buffer .now) (a .self .kind) (a .self .used .0) 1 (bad (c .before .before .before .before .before .before .before)) (8 + c .before .before .list-size .result))
+    c .admit .result ≡ gateFor (decided (a .buffer .now) (a .self .tag) (a .self .used .0) 1 (bad (c .before .before .before .before .before .before .before)) (8 + c .before .before .list-size .result))
 gate c = rw (← c .before .before .before .list-is-bad .ensures) (c .admit .ensures)
 
 admitted : (c : tie.After-enum-told) →
     let s = c .before .before .before .before .before .before .before .before .before in
-    Opened (s .args .buffer .now) (s .args .self .kind) (s .args .self .used .0) (entry s) (bad s)
+    Opened (s .args .buffer .now) (s .args .self .tag) (s .args .self .used .0) (entry s) (bad s)
 admitted c = opened _ _ _ (entry (c .before .before .before .before .before .before .before .before .before)) (bad (c .before .before .before .before .before .before .before .before .before)) _ (sized (c .before .before .before .before)) _ (gate (c .before .before)) (c .enum-told .given .1)
 
 add-size : tie.Need-add-size

@@ -5,13 +5,13 @@ use Prim.Native.Nat.{ℕ}
 use mathlib.Core.Path.{_≡_, refl, sym, _∙_}
 use mathlib.Core.Bool.{true, false}
 use borrow.Author.Tests.{not-true, not-false}
-use Rattle.body_format.specs.Entries.{Kind, Known, known, unknown}
+use Rattle.body_format.specs.Entries.{BodyType, Known, known, unknown}
 use Rattle.body_format.specs.Laws.Additions.{start-no-room, start-used, start-unknown}
 use Rattle.body_builder.specs.Sizes.{isKnown}
 use Rattle.body_builder.proofs.Body.start.Statement.{statement}
 use Rattle.body_builder.proofs.Body.start.Tie as tie
 
-some : (n : Known) → isKnown n ≡ true → (k : Kind) × (n ≡ known k)
+some : (n : Known) → isKnown n ≡ true → (k : BodyType) × (n ≡ known k)
 some (known k) h = (k, refl)
 some unknown h = let z : _≡_ {A = ℕ} 0 1 = cc in absurd (omega arith)
 

@@ -4,19 +4,19 @@ use native.Mathlib.Omega.{arith}
 use mathlib.Core.Path.{_≡_, sym, _∙_}
 use mathlib.Core.Bool.{false}
 use Rattle.body_format.specs.Building.{badState}
-use Rattle.body_builder.proofs.Adding.{state-within, gate-place, gate-kind, gate-list, gate-long, gate-room, gate-open}
+use Rattle.body_builder.proofs.Adding.{state-within, gate-place, gate-tag, gate-list, gate-long, gate-room, gate-open}
 use Rattle.body_builder.proofs.builder.admit.Statement.{statement}
 use Rattle.body_builder.proofs.builder.admit.Tie as tie
 
 -- what the first test leaves
-good : (c : tie.Else1) → badState (c .before .before .before .args .buffer .now) (c .before .before .before .args .kind) (c .before .before .before .args .used) ≡ false
+good : (c : tie.Else1) → badState (c .before .before .before .args .buffer .now) (c .before .before .before .args .tag) (c .before .before .before .args .used) ≡ false
 good c = sym (c .before .state-is-bad .ensures) ∙ c .if1 .left
 
 returns : tie.Need-returns
 returns c = gate-place _ _ _ _ _ _ (sym (c .before .state-is-bad .ensures) ∙ c .if1 .taken)
 
 returns-2 : tie.Need-returns-2
-returns-2 c = gate-kind _ _ _ _ _ _ (good (c .before)) (c .if2 .taken)
+returns-2 c = gate-tag _ _ _ _ _ _ (good (c .before)) (c .if2 .taken)
 
 returns-3 : tie.Need-returns-3
 returns-3 c = gate-list _ _ _ _ _ _ (good (c .before .before)) (c .before .if2 .left) (c .if3 .taken)

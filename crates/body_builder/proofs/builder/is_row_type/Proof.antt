@@ -1,11 +1,11 @@
 -- `is_row_type` meets its contract, by the byte.
-use Rattle.body_format.specs.Entries.{kindOf}
-use Rattle.body_format.specs.Laws.Kinds.{rows-by-four}
+use Rattle.body_format.specs.Entries.{bodyTypeOf}
+use Rattle.body_format.specs.Laws.Types.{rows-by-four}
 use Rattle.body_builder.proofs.builder.is_row_type.Statement.{statement}
 use Rattle.body_builder.proofs.builder.is_row_type.Tie as tie
 
 returns : tie.Need-returns
-unfolding kindOf
+unfolding bodyTypeOf
 returns c = rw (c .if1 .taken)
 
 returns-2 : tie.Need-returns-2

@@ -7,18 +7,18 @@ use mathlib.Core.List.{List}
 use lib.ListN.{length}
 use lib.Seq.{length-sets}
 use Rattle.body_format.specs.Entries.{metadataEntry}
-use Rattle.body_format.specs.Building.{entryBytes, textListBytes, cutTexts}
+use Rattle.body_format.specs.Building.{entryBytes, stringListBytes, cutStrings}
 use Rattle.body_builder.proofs.Putting.{Put}
 use Rattle.body_builder.proofs.Laying.{byte-room, byte-then, byte-laid}
 use Rattle.body_builder.proofs.builder.put_metadata.Statement.{statement}
 use Rattle.body_builder.proofs.builder.put_metadata.Tie as tie
 
 abbrev list : tie.Start → List ℕ
-list s = textListBytes (cutTexts (s .args .strings .now) (s .args .lengths .now))
+list s = stringListBytes (cutStrings (s .args .strings .now) (s .args .lengths .now))
 
 whole : (c : tie.After-slice-known3) →
     let a = c .before .before .before .before .before .before .before .before .before .before .before .args in
-    Put (a .buffer .now) (a .at) (entryBytes (a .buffer .now) (a .at) (metadataEntry (a .id .0) (a .metric) (cutTexts (a .strings .now) (a .lengths .now)))) (c .before .before .put-list .last .0) (c .before .before .put-list .result)
+    Put (a .buffer .now) (a .at) (entryBytes (a .buffer .now) (a .at) (metadataEntry (a .id .0) (a .metric) (cutStrings (a .strings .now) (a .lengths .now)))) (c .before .before .put-list .last .0) (c .before .before .put-list .result)
 unfolding entryBytes
 whole c =
     let w = c .before .before .before .before .before .before .put-uvarint .ensures in

@@ -3,13 +3,13 @@ use borrow.Author.Needs.{needs}
 use Prim.Native.Nat.{ℕ}
 use mathlib.Core.List.{List}
 use Rattle.big_endian.specs.Fixed.{be8}
-use Rattle.body_format.specs.Building.{entryBytes, textListBytes, cutTexts}
+use Rattle.body_format.specs.Building.{entryBytes, stringListBytes, cutStrings}
 use Rattle.body_builder.proofs.Putting.{Put, put-first, room-then, put-then}
 use Rattle.body_builder.proofs.builder.put_series.Statement.{statement}
 use Rattle.body_builder.proofs.builder.put_series.Tie as tie
 
 abbrev list : tie.Start → List ℕ
-list s = textListBytes (cutTexts (s .args .strings .now) (s .args .lengths .now))
+list s = stringListBytes (cutStrings (s .args .strings .now) (s .args .lengths .now))
 
 first : (c : tie.After-put-be8) →
     let a = c .before .before .before .before .before .args in

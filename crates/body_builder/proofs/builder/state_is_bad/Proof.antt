@@ -6,7 +6,7 @@ use mathlib.Core.Bool.{_||_, _&&_, not, or-true, or-false}
 use lib.Dec.{leb, eqb}
 use lib.ListN.{getD}
 use borrow.Author.Tests.{le-leb, lt-leb, eq-eqb, ne-eqb, not-true, not-false}
-use Rattle.body_format.specs.Entries.{kindOf, rowsKnown}
+use Rattle.body_format.specs.Entries.{bodyTypeOf, rowsKnown}
 use Rattle.body_format.specs.Building.{badState}
 use Rattle.body_format.specs.Laws.Additions.{state-zero, state-past, state-inside}
 use Rattle.body_builder.proofs.builder.state_is_bad.Statement.{statement}
@@ -15,14 +15,14 @@ use Rattle.body_builder.proofs.builder.state_is_bad.Tie as tie
 -- what the first two tests leave
 inside : (c : tie.Else2) →
     let a = c .before .before .before .args in
-    badState (a .buffer .now) (a .kind) (a .used)
-    ≡ (rowsKnown (kindOf (a .kind)) && (leb 2 (a .used) && leb (a .used) 16)) || not (eqb (getD (a .buffer .now) 0 0) (a .kind))
+    badState (a .buffer .now) (a .tag) (a .used)
+    ≡ (rowsKnown (bodyTypeOf (a .tag)) && (leb 2 (a .used) && leb (a .used) 16)) || not (eqb (getD (a .buffer .now) 0 0) (a .tag))
 inside c = state-inside _ _ _ (omega arith) (omega arith)
 
 -- and the third
 rows : (c : tie.Else3) →
     let a = c .before .before .before .before .before .args in
-    badState (a .buffer .now) (a .kind) (a .used) ≡ (rowsKnown (kindOf (a .kind)) && (leb 2 (a .used) && leb (a .used) 16))
+    badState (a .buffer .now) (a .tag) (a .used) ≡ (rowsKnown (bodyTypeOf (a .tag)) && (leb 2 (a .used) && leb (a .used) 16))
 rows c = rw (inside (c .before .before), eq-eqb _ _ (c .if3 .left), or-false _)
 
 returns : tie.Need-returns

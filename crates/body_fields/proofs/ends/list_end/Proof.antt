@@ -1,6 +1,6 @@
 -- `list_end` meets its contract: on from a place, or the fault that was met before.
 use borrow.Author.Needs.{needs}
-use Rattle.body_format.specs.Fields.{textListAt}
+use Rattle.body_format.specs.Fields.{stringListAt}
 use Rattle.body_fields.specs.Laws.{list-got, list-fault}
 use Rattle.body_fields.proofs.ends.list_end.Statement.{statement}
 use Rattle.body_fields.proofs.ends.list_end.Tie as tie
@@ -8,13 +8,13 @@ use Rattle.body_fields.proofs.ends.list_end.Tie as tie
 returns : tie.Need-returns
 returns c =
     let b = c .before .before .before in
-    let e = list-got (textListAt _ _) _ (b .text-list-at .ensures) (c .before .next .given .1) in
+    let e = list-got (stringListAt _ _) _ (b .string-list-at .ensures) (c .before .next .given .1) in
     rw (b .before .before .from .given .1, e .1)
 
 returns-2 : tie.Need-returns-2
 returns-2 c =
     let b = c .before .before .before in
-    let e = list-fault (textListAt _ _) _ (b .text-list-at .ensures) (c .before .why .given .1) in
+    let e = list-fault (stringListAt _ _) _ (b .string-list-at .ensures) (c .before .why .given .1) in
     rw (b .before .before .from .given .1, e)
 
 returns-3 : tie.Need-returns-3

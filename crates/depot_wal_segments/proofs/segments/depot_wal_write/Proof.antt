@@ -3,12 +3,12 @@
 use borrow.Author.Needs.{needs}
 use mathlib.Core.List.{[], _∷_}
 use native.Mathlib.Omega.{arith}
-use Rattle.segment_format.specs.Kept.{none-lent}
+use Rattle.segment_format.specs.Instances.{none-lent}
 use Rattle.depot_wal_segments.proofs.segments.depot_wal_write.Statement.{statement}
 use Rattle.depot_wal_segments.proofs.segments.depot_wal_write.Tie as tie
 
 returns : tie.Need-returns
-returns c = let e = none-lent (0 ∷ []) (omega arith) in rw e at (c .before .before .write-and-tell .ensures)
+returns c = let e = none-lent (0 ∷ []) (omega arith) in rw e at (c .before .before .write-to-out .ensures)
 
 pub depot-wal-write-spec : {M : Type 1} → statement M
 depot-wal-write-spec = tie.close (tie.spec (λ c. search needs) (λ c κs. search needs) (λ c. search needs) returns)
