@@ -1,6 +1,6 @@
 -- What the fields of a row and of an entry of rows come to, fault by fault, in the code's forms.
 use mathlib.Core.Bool.{Bool, true, false}
-use mathlib.Core.Path.{_≡_}
+use mathlib.Core.Path.{_≡_, _∙_}
 use mathlib.Core.List.{List}
 use Prim.Native.Nat.{ℕ}
 use lib.IntN.{pos}
@@ -55,11 +55,12 @@ module _ (s : List ℕ) (p : ℕ) where
   unfolding rowAt
   row-3 h i j = rw (h, i, j)
 
-  pub row-all : {d q e r v next : ℕ} {id : SeriesId} {time : Timestamp}
+  pub row-all : {d q e r v next : ℕ} {id : SeriesId} {time : Timestamp} {found : RowRead}
+      → found ≡ rowGot id time d e v next
       → uvarintAt s p ≡ got d q → uvarintAt s q ≡ got e r → fixedAt s r ≡ got v next → BaseIn s id time
-      → rowGot id time d e v next ≡ rowRead (rowAt s p)
+      → found ≡ rowRead (rowAt s p)
   unfolding rowAt
-  row-all h i j b = rw (h, i, j, b .same-id, b .same-time)
+  row-all g h i j b = g ∙ rw (h, i, j, b .same-id, b .same-time)
 
   -- ---- a row, and its labels
 

@@ -16,6 +16,7 @@ use Rattle.body_format.specs.Laws.Fields.{place-same, fixed-got}
 use Rattle.body_fields.specs.declared.Place.the-variants.{At}
 use Rattle.body_fields.specs.Ends.{endOf}
 use Rattle.body_fields.specs.Laws.{never, uvarint-one}
+use Rattle.body_rows.specs.declared.RowRead.{RowRead}
 use Rattle.body_rows.specs.Forms.{isShortRow, BaseIn, rowGot, rowRead}
 use Rattle.body_rows.proofs.Reading.{row-all}
 
@@ -62,6 +63,7 @@ module _ (s : List ℕ) (p : ℕ) (e : isShortRow s p ≡ true) where
   unfolding rowAt
   short-end = rw (short-id, short-time, short-bits)
 
-  pub short-read : {bits : ℕ} {id : SeriesId} {time : Timestamp} → bits ≡ readBe8 (drop (p + 2) s) → BaseIn s id time
-      → rowGot id time (getD s p 0) (getD s (p + 1) 0) bits (p + 10) ≡ rowRead (rowAt s p)
-  short-read v b = rw v (row-all s p short-id short-time short-bits b)
+  pub short-read : {bits : ℕ} {id : SeriesId} {time : Timestamp} {found : RowRead}
+      → found ≡ rowGot id time (getD s p 0) (getD s (p + 1) 0) bits (p + 10)
+      → bits ≡ readBe8 (drop (p + 2) s) → BaseIn s id time → found ≡ rowRead (rowAt s p)
+  short-read g v b = row-all s p (rw v at g) short-id short-time short-bits b

@@ -129,6 +129,7 @@ fn long_row_at(body: &[u8], first_id: SeriesId, first_time: Timestamp, at: usize
     }
 }
 
+// The end of such a row.
 fn long_row_end(body: &[u8], at: usize) -> Place
     ensures { λ r. ⌜ r ≡ endOf (rowAt (now (body .entry)) at) ⌝ }
 {
@@ -137,7 +138,7 @@ fn long_row_end(body: &[u8], at: usize) -> Place
     fixed_end(body, third)
 }
 
-// What types 2 and 4 share.
+// What types 2 and 4 share: a row, short or long.
 fn row_at(body: &[u8], first_id: SeriesId, first_time: Timestamp, at: usize) -> RowRead
     requires { ⌜ BaseIn (now body) «first_id» «first_time» ⌝ }
     ensures { λ r. ⌜ r ≡ rowRead (rowAt (now (body .entry)) at) ⌝ }
@@ -154,6 +155,7 @@ fn row_at(body: &[u8], first_id: SeriesId, first_time: Timestamp, at: usize) -> 
     long_row_at(body, first_id, first_time, at)
 }
 
+// The end of a row, likewise.
 fn row_end(body: &[u8], at: usize) -> Place
     ensures { λ r. ⌜ r ≡ endOf (rowAt (now (body .entry)) at) ⌝ }
 {
@@ -181,6 +183,7 @@ fn labels_at(body: &[u8], labelled: bool, at: usize) -> StringListRead
     }
 }
 
+// The type byte of rows.
 fn row_type(labelled: bool) -> u8
     ensures { λ r. ⌜ r ≡ typeByte (rowsType labelled) ⌝ }
 {
@@ -253,8 +256,8 @@ pub fn rows_begin(body: &[u8]) -> Place
 }
 
 // A body that ends before its rows: place 1 is its end where nothing stands behind the type byte,
-// and no other place is good. It asks for the lengths that `rows_begin` asks for: to take that
-// one's answer apart again was slower (docs/DECISIONS.md, 34).
+// and no other place is good; in an empty body none is. It asks for the lengths that `rows_begin`
+// asks for: to take that one's answer apart again was slower (docs/DECISIONS.md, 34).
 fn no_row(body: &[u8], at: usize) -> EntryAnswer
     requires { ⌜ length (now body) < 17 ⌝ }
     ensures { λ r. ⌜ ((labelled : Bool) → r ≡ entryKnown (known (rowsType labelled)) (now (body .entry)) at) ⌝ }

@@ -1,6 +1,5 @@
 -- `long_row_at` meets its contract, field by field.
 use borrow.Author.Needs.{needs}
-use mathlib.Core.Path.{_∙_}
 use Rattle.body_fields.specs.Laws.{number-got, number-fault}
 use Rattle.body_rows.proofs.Reading.{row-1, row-2, row-3, row-all}
 use Rattle.body_rows.proofs.long_row_at.Statement.{statement}
@@ -11,8 +10,7 @@ returns c =
     let third = c .before .before .before .before in
     let second = third .before .before .before .before in
     let first = second .before .before .before .before in
-    c .row-of .ensures
-    ∙ row-all _ _
+    row-all _ _ (c .row-of .ensures)
     (number-got _ _ (first .uvarint-at .ensures) (second .before .before .from-id .given .1))
     (number-got _ _ (second .uvarint-at2 .ensures) (third .before .before .from-time .given .1))
     (number-got _ _ (third .fixed-at .ensures) (c .before .before .bits .given .1))

@@ -39,7 +39,7 @@ cast-from-time c =
 returns : tie.Need-returns
 returns c =
     let b = c .before .before .before .before in
-    c .row-of .ensures ∙ short-read _ _ (is-short b) (c .before .get-be8 .ensures) (b .before .before .before .pre)
+    short-read _ _ (is-short b) (c .row-of .ensures) (c .before .get-be8 .ensures) (b .before .before .before .pre)
 
 pub row-at-spec : {M : Type 1} → statement M
 row-at-spec =

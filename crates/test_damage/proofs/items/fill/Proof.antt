@@ -1,0 +1,49 @@
+-- The bytes lie inside the segment, whose length stays.
+-- Assumes nothing.
+use borrow.Author.Needs.{needs}
+use Prim.Native.Nat.{_-_}
+use mathlib.Core.Path.{_≡_}
+use lib.ListN.{length}
+use Rattle.test_damage.proofs.items.fill.Statement.{statement}
+use Rattle.test_damage.proofs.items.fill.Tie as tie
+
+abbrev Inv-loop : tie.InvT-loop
+Inv-loop segment₀ from to byte i₀ segment i = length segment ≡ length segment₀
+
+abbrev μ-loop : tie.MeasureT-loop
+μ-loop segment₀ from to byte i₀ segment i = to - i
+
+loop-holds : tie.Need-loop-holds Inv-loop μ-loop
+loop-holds c = search needs
+
+slice-write-segment : tie.Need-slice-write-segment Inv-loop μ-loop
+slice-write-segment c = search needs
+
+add-i : tie.Need-add-i Inv-loop μ-loop
+add-i c = search needs
+
+loop-less : tie.Need-loop-less Inv-loop μ-loop
+loop-less c = search needs
+
+loop-again : tie.Need-loop-again Inv-loop μ-loop
+loop-again c = search needs
+
+same-length : tie.Need-same-length Inv-loop μ-loop
+same-length c = search needs
+
+returns : tie.Need-returns Inv-loop μ-loop
+returns c = search needs
+
+pub fill-spec : {M : Type 1} → statement M
+fill-spec =
+    tie.close
+    (tie.spec
+    Inv-loop
+    μ-loop
+    loop-holds
+    slice-write-segment
+    add-i
+    loop-less
+    loop-again
+    same-length
+    returns)

@@ -1,0 +1,9 @@
+-- A count of bytes that a segment has room for. What is malformed has no count.
+-- Assumes nothing.
+use Prim.Native.Nat.{ℕ, _≤_}
+use Rattle.test_damage.specs.declared.items.Count.{Count}
+use Rattle.test_damage.specs.declared.items.Count.the-variants.{Of, Malformed}
+
+abbrev pub Fits : Count → ℕ → Type 0
+Fits (Of n) room = n ≤ room
+Fits Malformed room = Unit {0}
