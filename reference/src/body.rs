@@ -1,4 +1,4 @@
-//! The five record bodies of document 01's "Bodies", built and read.
+//! The five record bodies (FORMAT 8 to 11), built and read.
 
 use crate::refusal::*;
 use crate::varint::{self, Fault};
@@ -70,7 +70,7 @@ pub struct State {
     pub used: usize,
 }
 
-/// Strings as they are lent: their lengths, and all their bytes in one slice.
+/// Strings as the caller gives them: their lengths, and all their bytes in one slice.
 #[derive(Clone, Copy, Debug)]
 pub struct Strings<'a> {
     pub text: &'a [u8],
@@ -161,8 +161,8 @@ pub fn add(buffer: &mut [u8], state: State, entry: &NewEntry) -> Result<State, R
     Ok(State { kind, used })
 }
 
-/// "It is BadPlace if these are 0, more than the buffer has, 2 to 16 for types 2 and 4, or if the
-/// buffer's first byte is not the type."
+/// BadPlace (FORMAT 10.5): the bytes used are 0, more than the buffer has, or 2 to 16 for types 2
+/// and 4, or the buffer's first byte is not the type.
 fn check_state(buffer: &[u8], state: State) -> Result<(), Refusal> {
     let State { kind, used } = state;
     let inside_first = has_rows(kind) && (2..ROWS).contains(&used);
@@ -443,7 +443,7 @@ impl<'a> Cursor<'a> {
         Ok(varint::unzigzag(self.uvarint()?))
     }
 
-    /// "A string with its length is one field."
+    /// A string with its length is one field (FORMAT 8.4).
     fn string(&mut self) -> Result<&'a [u8], Refusal> {
         let field = self.place();
         let length = self.uvarint()?;

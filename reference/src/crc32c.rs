@@ -1,6 +1,6 @@
-//! CRC-32C (Castagnoli), as document 01 gives it: reflected polynomial 0x82F63B78, start and final
-//! xor 0xFFFFFFFF. Twice: bit by bit, which is the definition, and by slices of eight bytes, which
-//! is the fastest form without special instructions.
+//! CRC-32C (Castagnoli), as FORMAT 3 gives it: reflected polynomial 0x82F63B78, start and final xor
+//! 0xFFFFFFFF. Twice: bit by bit, which is the definition, and by slices of eight bytes, which is
+//! the fastest form without special instructions.
 
 /// The reflected polynomial.
 pub const POLYNOMIAL: u32 = 0x82F6_3B78;

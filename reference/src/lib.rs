@@ -1,6 +1,7 @@
-//! The second program: document 01 written down plainly, from the papers alone, so that the
-//! product can be compared with it. Clear before fast; the checksum and the bodies are also made
-//! fast, since the product's speed is measured against them.
+//! The second program: the format (docs/FORMAT.md) in plain Rust, written from the customer's rules
+//! alone and never from the product's code, so that the product can be compared with it. Clear
+//! before fast; the checksum and the bodies are also made fast, since the product's speed is
+//! measured against them.
 
 #![forbid(unsafe_code)]
 

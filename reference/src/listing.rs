@@ -1,4 +1,4 @@
-//! Document 01's listing.
+//! The listing (FORMAT 15).
 
 use crate::refusal::{Refusal, TORN};
 use crate::segment::{self, Reading, Record};

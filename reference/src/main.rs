@@ -1,8 +1,8 @@
-//! `reference selftest`: the papers' literals against this program; nonzero on any difference.
-//! `reference vectors`: the lines that the product's program of vectors has to print.
-//! `reference reader`: the lines that the product's program `reader_tour` has to print.
-//! `reference samples`: the lines that the product's program `samples_tour` has to print.
-//! `reference list`: document 01's listing of a segment on standard input.
+//! `reference selftest`: published numbers against this program; nonzero on any difference.
+//! `reference vectors`: the lines that the product's program `test_vectors` has to print.
+//! `reference reader`: the lines that the product's program `test_cursor` has to print.
+//! `reference samples`: the lines that the product's program `test_samples` has to print.
+//! `reference list`: the listing of a segment on standard input (FORMAT 15).
 //! `reference damage FILE`: the cases of a table of named damage, with this program's answers.
 
 #![forbid(unsafe_code)]

@@ -1,4 +1,4 @@
-//! "Numbers the box may answer".
+//! The status numbers (FORMAT 12).
 
 /// A refusal: its number and the place reported.
 #[derive(Clone, Copy, Debug, PartialEq, Eq)]

@@ -1,4 +1,4 @@
-//! The papers' numbers as literals: RFC 3720's checksums and document 01's varints.
+//! Published numbers as literals: RFC 3720's checksums and the varints of FORMAT 14.
 
 use crate::{crc32c, varint};
 
@@ -24,7 +24,7 @@ pub fn checksum_cases() -> Vec<(Vec<u8>, u32)> {
 
 const TOP: [u8; 10] = [0xFF, 0xFF, 0xFF, 0xFF, 0xFF, 0xFF, 0xFF, 0xFF, 0xFF, 0x01];
 
-/// Document 01's uvarints.
+/// The uvarints of FORMAT 14.
 const UVARINTS: [(u64, &[u8]); 4] = [
     (127, &[0x7F]),
     (128, &[0x80, 0x01]),
@@ -32,7 +32,7 @@ const UVARINTS: [(u64, &[u8]); 4] = [
     (u64::MAX, &TOP),
 ];
 
-/// Document 01's varints.
+/// The varints of FORMAT 14.
 const VARINTS: [(i64, &[u8]); 5] = [
     (-1, &[0x01]),
     (1, &[0x02]),
@@ -41,7 +41,7 @@ const VARINTS: [(i64, &[u8]); 5] = [
     (i64::MIN, &TOP),
 ];
 
-/// Everything; the first difference is told.
+/// Runs all checks; the error names the first difference.
 pub fn run() -> Result<(), String> {
     published_checksums()?;
     both_forms_agree()?;

@@ -1,8 +1,9 @@
-//! The lines that the product's program `reader_tour` has to print: eight records written from the
+//! The lines that the product's program `test_cursor` has to print: eight records written from the
 //! start into four pages, each at the place that the write before handed back, byte i of a record
-//! being i modulo 256; then ten reads of the whole segment and ten of its first 100,000 bytes, each at
-//! the place after the record just yielded, and at the same place again after an end or a refusal.
-//! `segment LENGTH`, then for each read `record START LENGTH AFTER`, `end` or `refused NUMBER PLACE`.
+//! being i modulo 256; then ten reads of the whole segment and ten of its first 100,000 bytes, each
+//! at the place after the record just read, and at the same place again after an end or a refusal.
+//! `segment LENGTH`, then for each read `record START LENGTH AFTER`, `end` or `refused NUMBER
+//! PLACE`.
 
 use crate::segment::{self, Reading, PAGE, RECORD_MAX};
 use std::fmt::Write;

@@ -1,7 +1,7 @@
-//! The lines that the product's program `samples_tour` has to print: a list of four samples, each of
-//! id 9, time 9 and bits 9, is filled from each of sixteen bodies.
-//! `fill LENGTH -> filled COUNT` or `fill LENGTH -> refused NUMBER PLACE`, where LENGTH is the body's
-//! length in bytes, then for each of the four samples `sample ID TIME BITS`.
+//! The lines that the product's program `test_samples` has to print: a list of four samples, each
+//! of id 9, time 9 and bits 9, is filled from each of sixteen bodies.
+//! `fill LENGTH -> filled COUNT` or `fill LENGTH -> refused NUMBER PLACE`, where LENGTH is the
+//! body's length in bytes, then for each of the four samples `sample ID TIME BITS`.
 
 use crate::body::{
     self, Sample, SeriesId, Timestamp, EXEMPLARS, METADATA, SAMPLES, SERIES, TOMBSTONES,
@@ -38,11 +38,12 @@ fn bodies() -> [Vec<u8>; 16] {
         with(&[row(&[0], &[0], 1), row(&BACK, &BACK, 2)]),
         counted(4),
         counted(5),
-        // Other types, two of them with an entry cut short: the type is told before the fault.
+        // Other types, two of them with a truncated entry: the type is reported before the fault.
         vec![TOMBSTONES, 1],
         vec![EXEMPLARS],
         vec![METADATA, 0x80],
-        // More rows than the list has, then a row cut short: the fault is told before the full list.
+        // More rows than the list has, then a truncated row: the fault is reported before the full
+        // list.
         [counted(5), vec![0]].concat(),
     ]
 }

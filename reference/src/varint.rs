@@ -1,6 +1,6 @@
-//! Document 01's uvarint and varint, 64 bits wide. A uvarint has seven bits a byte, lowest group
-//! first; longer than needed is accepted in reading, never written. A varint is the uvarint of 2x
-//! for x >= 0 and of -2x - 1 for x < 0.
+//! Uvarint and varint, 64 bits wide (FORMAT 8.2, 8.3). A uvarint has seven bits a byte, lowest
+//! group first; longer than needed is accepted in reading, never written. A varint is the uvarint
+//! of 2x for x >= 0 and of -2x - 1 for x < 0.
 
 /// The longest encoding in bytes.
 pub const LONGEST: usize = 10;

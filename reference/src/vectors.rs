@@ -1,5 +1,5 @@
-//! The lines that the product's program of vectors has to print. All numbers are decimal, bytes and
-//! checksums lowercase hex without spaces, words separated by one space, each line ended by a
+//! The lines that the product's program `test_vectors` has to print. All numbers are decimal, bytes
+//! and checksums lowercase hex without spaces, words separated by one space, each line ended by a
 //! newline. In this order:
 //!
 //! `crc32c LENGTH SUM`: for the data of `selftest::checksum_cases`.
@@ -16,7 +16,7 @@
 //! of every record is i modulo 256:
 //! - `slice PAGES`
 //! - for each write `write PLACE LENGTH -> next NEXT`, followed by a line `fragment PLACE TYPE
-//!   LENGTH` for each fragment of the record, as its header stands in the slice (the first at the
+//!   LENGTH` for each fragment of the record, as its header is in the slice (the first at the
 //!   write's place, each later one at the place after the one before it, up to a type 1 or 4); or
 //!   `write PLACE LENGTH -> refused NUMBER PLACE`
 //! - `sum SUM`: the CRC-32C of the whole slice in the end.
@@ -134,7 +134,7 @@ fn add_readings(lines: &mut String) {
 /// Pages of a slice and the writes on it, each a place and a record's length.
 type Writes = (usize, &'static [(usize, usize)]);
 
-/// Document 01's "From a fresh page" and "Two pages hold", and the places around them.
+/// The sizes of FORMAT 14, and the places around them.
 const WRITES: [Writes; 10] = [
     (1, &[(0, 0), (7, 37), (51, 0)]),
     (2, &[(0, 32_754), (32_761, 1), (32_776, 5)]),
@@ -202,7 +202,7 @@ fn add_types(lines: &mut String) {
     }
 }
 
-/// "switch at time 1000, id 7 to 0, id 8 to 1.0".
+/// The switch of FORMAT 13: at time 1000, id 7 to 0, id 8 to 1.0.
 pub const SWITCH: [u8; 37] = [
     2, 0, 0, 0, 0, 0, 0, 0, 7, 0, 0, 0, 0, 0, 0, 0x03, 0xE8, 0, 0, 0, 0, 0, 0, 0, 0, 0, 0, 1, 0,
     0x3F, 0xF0, 0, 0, 0, 0, 0, 0,

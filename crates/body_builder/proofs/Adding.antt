@@ -1,4 +1,4 @@
--- An addition: its state, what the gate lets through, and what comes of it.
+-- An addition: its state, the gate's tests, and its outcome.
 use mathlib.Core.Path.{_≡_, refl, sym, ap, _∙_}
 use mathlib.Core.Bool.{Bool, true, false, cond, not}
 use mathlib.Core.List.{List}
@@ -69,7 +69,7 @@ module _ (b : List ℕ) (t u want : ℕ) (bad : Bool) (n : ℕ) where
         unfolding decided
         gate-open m o = rw (h, eq-eqb t want k, l, le-ltb 65536 (u + n) m, le-ltb (length b) (u + n) o)
 
--- ---- what comes of an addition of the entry e, whose size is n
+-- ---- the outcome of adding the entry e, whose size is n
 
 fitting-same : (b : List ℕ) (u n m : ℕ) → Sized n m → fitting b u n ≡ fitting b u m
 fitting-same b u n m (exact e) = ap (fitting b u) e

@@ -1,4 +1,4 @@
--- Lent strings put down one after another, each behind its length.
+-- The caller's strings written one after another, each after its length.
 use mathlib.Core.Path.{_≡_, refl, sym, ap, ap₂, _∙_}
 use mathlib.Core.List.{List, [], _∷_, _++_}
 use Prim.Native.Nat.{ℕ, _+_, _-_, _/_, _≤_, _<_}
@@ -16,7 +16,8 @@ use Rattle.body_builder.proofs.Putting.{Put, put-first, room-then, put-
 abbrev rest : List ℕ → List ℕ → ℕ → ℕ → List ℕ
 rest strings lengths from i = stringsBytes (cutStrings (drop from strings) (drop i lengths))
 
--- With those that are left put down from `place` on, the slice b is what b₀ is to become, and the place after them is the same.
+-- Once the strings that are left are written to b from `place` on, b is what b₀ is to become, and
+-- the place after them is the same.
 pub record Laying (strings lengths b₀ : List ℕ) (at : ℕ) (b : List ℕ) (place from i : ℕ) : Type 0 where
   pub inside : i ≤ length lengths
   pub left : from + total (drop i lengths) ≡ length strings

@@ -1,4 +1,4 @@
--- Bytes put down one after another.
+-- Bytes written one after another.
 use mathlib.Core.Path.{_≡_, ap₂, _∙_}
 use mathlib.Core.List.{List, _++_}
 use Prim.Native.Nat.{ℕ, _+_, _≤_}
@@ -9,7 +9,7 @@ use Rattle.byte_copy.specs.Put.{putAt, putEnd}
 use Rattle.byte_copy.specs.PutLaws.{put-fits, end-fits}
 use Rattle.byte_copy.specs.CopiedLaws.{sets-append}
 
--- the bytes vs stand from place `at` on, d′ is the slice then, and r the place after them
+-- the bytes vs are written to d at place `at`: d′ is the slice then, and r the place after them
 abbrev pub Put : List ℕ → ℕ → List ℕ → List ℕ → ℕ → Type 0
 Put d at vs d′ r = (r ≡ at + length vs) × (d′ ≡ sets d at vs)
 

@@ -22,7 +22,7 @@ use Rattle.body_builder.specs.declared.builder.Deltas.{Deltas}
 use Rattle.body_builder.specs.Sizes.{rowSize, rowTail, deltasIn, heads, listSize}
 use Rattle.body_builder.proofs.Putting.{Put, put-last, put-first, room-then, put-then}
 
--- a size is exact, or above the limit as the size it stands for is
+-- a size n for the true size m: exact, or both are above the limit
 pub data Sized (n m : ℕ) : Type 0 where
   exact : n ≡ m → Sized n m
   above : 65536 < n → 65536 < m → Sized n m
@@ -76,7 +76,7 @@ unfolding heads
 heads-least [] = omega arith
 heads-least (n ∷ lengths) = omega (arith, length-at-least-1 n, heads-least lengths)
 
--- nothing is left exactly where the sum is the size
+-- nothing is left exactly if the sum is the size
 pub sum-is : (left sum size : ℕ) → left + sum ≡ size → eqb left 0 ≡ eqb sum size
 sum-is left sum size e = go (eqb left 0) refl
   where
@@ -132,12 +132,12 @@ row-sized b u id time v row e = ap (λ (r : Deltas). rowSize u (r .id) (r .time)
     go true a = rw a (sym (length-row-first b u id time v (eqb-true u 1 a)))
     go false a = rw a (sym (length-row-later b u id time v (eqb-false u 1 a)))
 
--- a later row
+-- a later row: its deltas, and the value
 pub later-row : (b : List ℕ) (u id time v : ℕ) (row : Deltas) → row ≡ deltasIn b id time → (u ≡ 1 → ⊥) → rowTail (row .id) (row .time) v ≡ rowBytes b u id time v
 unfolding rowTail
 later-row b u id time v row e h = ap (λ (r : Deltas). rowTail (r .id) (r .time) v) e ∙ sym (row-later b u id time v h)
 
--- the first row, from what its puts say
+-- the first row, from what its puts write
 module _ (b d₁ d₂ : List ℕ) (u p q id time v : ℕ) (first : u ≡ 1) (room : u + length (rowBytes b u id time v) ≤ length b)
     (e : p ≡ putEnd b u (be8 id)) (f : d₁ ≡ putAt b u (be8 id)) (g : q ≡ putEnd d₁ p (be8 time)) (h : d₂ ≡ putAt d₁ p (be8 time)) where
   bytes : rowBytes b u id time v ≡ be8 id ++ (be8 time ++ rowTail 0 0 v)

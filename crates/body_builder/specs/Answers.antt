@@ -6,7 +6,7 @@ use Rattle.body_format.specs.Building.{Outcome, used, refused}
 use Rattle.body_builder.specs.declared.Added.{Added}
 use Rattle.body_builder.specs.declared.Added.the-variants.{Next, Refused}
 
--- of a body of type t: the next state, which is its type and the bytes used, or the refusal
+-- of a body of tag t: the next state, which is its tag and the bytes used, or the refusal
 abbrev pub addedOf : ℕ → Outcome → Added
 addedOf t (used n) = Next (record { tag = t; used = offset n })
 addedOf t (refused why) = Refused why

@@ -1,4 +1,5 @@
--- What decides an addition, by numbers: the definition `add` of body_format with a size in place of the entry's bytes; and the sizes of entries.
+-- What decides an addition, by numbers: `add` of body_format with a size in place of the entry's
+-- bytes. Also the sizes of entries.
 -- Assumes nothing.
 use mathlib.Core.Bool.{Bool, true, false, cond, not}
 use mathlib.Core.List.{List, [], _∷_, _++_}
@@ -19,7 +20,7 @@ use Rattle.body_builder.specs.declared.builder.Gate.{Gate}
 use Rattle.body_builder.specs.declared.builder.Gate.the-variants.{Open, Shut}
 use Rattle.body_builder.specs.declared.builder.Deltas.{Deltas}
 
--- whether a byte stands for a type
+-- whether a byte is the tag of a type
 abbrev pub isKnown : Known → Bool
 isKnown (known k) = true
 isKnown unknown = false
@@ -28,7 +29,8 @@ abbrev pub gateFor : Outcome → Gate
 gateFor (used n) = Open
 gateFor (refused why) = Shut why
 
--- an entry of n bytes that belongs in a body of type `want`: BadPlace, WrongKind, BadList, TooLong, NoRoom
+-- an entry of n bytes that belongs in a body of tag `want`, in the order of FORMAT 10.5: `decided`
+-- tests for BadPlace, WrongKind and BadList, then `fitting` for TooLong and NoRoom
 abbrev pub fitting : List ℕ → ℕ → ℕ → Outcome
 fitting b u n =
     cond (ltb recordLimit (u + n)) (refused (TooLong (offset u)))
@@ -51,7 +53,7 @@ deltasIn b id time = record { id = minus id (readBe8 (drop 1 b)); time = minus t
 unfoldable pub rowTail : ℕ → ℕ → ℕ → List ℕ
 rowTail d e v = uvarint d ++ (uvarint e ++ be8 v)
 
--- the first row has two fields of eight bytes more, and deltas of one byte
+-- the first row also has the first id and timestamp, eight bytes each, and its deltas have one byte
 abbrev pub rowSize : ℕ → ℕ → ℕ → ℕ
 rowSize u d e = cond (eqb u 1) 26 (length (uvarint d) + length (uvarint e) + 8)
 
@@ -60,12 +62,13 @@ rowSize u d e = cond (eqb u 1) 26 (length (uvarint d) + length (uvarint e) + 8)
 abbrev pub tombstoneSize : ℤ → ℤ → ℕ
 tombstoneSize min max = 8 + (length (varint min) + length (varint max))
 
--- how many bytes the lengths of strings take
+-- the bytes that the lengths of strings take
 unfoldable pub heads : List ℕ → ℕ
 heads [] = 0
 heads (n ∷ lengths) = length (uvarint n) + heads lengths
 
--- how many bytes a list takes: its count, the lengths and the strings' n bytes; one number above 65,536 for every list of more strings or bytes than that
+-- the bytes that a list takes: its count, the lengths and the strings' n bytes; one number above
+-- 65,536 for every list of more strings or bytes than that
 unfoldable pub listSize : ℕ → List ℕ → ℕ
 listSize n lengths =
     cond (ltb recordLimit (length lengths)) (recordLimit + 1)

@@ -1,4 +1,5 @@
-// Building: what decides a start or an addition, and the bytes of an entry at a place that has room for them.
+// Building: what decides a start or an addition, and the writing of an entry at a place that has
+// room for it.
 use crate::strings::put_list;
 use body_format::EXEMPLARS;
 use body_format::METADATA;
@@ -23,7 +24,7 @@ ghost use Rattle.body_format.specs.Building.{badState, cutStrings, total, rowBy
 ghost use Rattle.body_format.specs.Entries.{bodyTypeOf, rowsKnown, seriesEntry, tombstoneEntry, metadataEntry};
 ghost use Rattle.body_builder.specs.Sizes.{isKnown, decided, gateFor, deltasIn, rowSize, rowTail, tombstoneSize};
 
-// The bytes of the first row: the first id and timestamp, two deltas of one byte each, and the value.
+// The bytes of the first row: the first id and timestamp, two deltas of one byte each, the value.
 const FIRST_ROW: usize = 26;
 
 // Whether an entry may be added, or why not.
@@ -38,7 +39,7 @@ pub(crate) struct Deltas {
     pub time: u64,
 }
 
-// The types 1 to 4 and 6.
+// The known types, 1 to 4 and 6.
 pub(crate) fn is_known(tag: u8) -> bool
     ensures { λ r. ⌜ r ≡ isKnown (bodyTypeOf tag) ⌝ }
 {
@@ -62,7 +63,7 @@ fn is_row_type(tag: u8) -> bool
     tag == EXEMPLARS
 }
 
-// BadPlace: a state (tag, used) that no body in the buffer has.
+// BadPlace (FORMAT 10.5): a state (tag, used) that no body in the buffer has.
 fn state_is_bad(buffer: &[u8], tag: u8, used: usize) -> bool
     ensures { λ r. ⌜ r ≡ badState (now (buffer .entry)) tag used ⌝ }
 {
@@ -84,7 +85,8 @@ fn state_is_bad(buffer: &[u8], tag: u8, used: usize) -> bool
     used <= 16
 }
 
-// Decides by numbers alone: the state (tag, used), the type that the entry belongs in, whether its list is bad, and its size.
+// Decides by numbers alone, in the order of FORMAT 10.5: the state (tag, used), the tag of the
+// entry's type, whether its list is bad, and its size.
 pub(crate) fn admit(buffer: &[u8], tag: u8, used: usize, want: u8, bad: bool, size: usize) -> Gate
     ensures { λ r. ⌜ r ≡ gateFor (decided (now (buffer .entry)) tag used want bad size) ⌝ }
 {
@@ -109,7 +111,8 @@ pub(crate) fn admit(buffer: &[u8], tag: u8, used: usize, want: u8, bad: bool, si
     Gate::Open
 }
 
-// The deltas of a row to bytes 1 to 16 of the buffer. The first row has none, and does not look at them.
+// The deltas of a row to the first id and timestamp, bytes 1 to 16 of the buffer (FORMAT 10.4). A
+// first row does not use them.
 pub(crate) fn deltas_of(buffer: &[u8], id: SeriesId, time: Timestamp) -> Deltas
     ensures { λ r. ⌜ r ≡ deltasIn (now (buffer .entry)) (id .0) (toBits (time .0)) ⌝ }
 {
@@ -121,7 +124,7 @@ pub(crate) fn deltas_of(buffer: &[u8], id: SeriesId, time: Timestamp) -> Deltas
     }
 }
 
-// How many bytes a row takes behind `used` bytes: the first one brings the first id and timestamp.
+// The bytes that a row takes after `used` bytes. The first one has the first id and timestamp too.
 pub(crate) fn row_size(used: usize, row: Deltas) -> usize
     ensures { λ r. ⌜ (r ≡ rowSize used (row .id) (row .time)) × (r ≤ 28) ⌝ }
 {
@@ -134,7 +137,8 @@ pub(crate) fn row_size(used: usize, row: Deltas) -> usize
     both + 8
 }
 
-// Two deltas of one byte each, and the value. Nearly every row is such, and what its puts would ask is known.
+// Two deltas of one byte each, and the value. Nearly every row is such, and here the lengths of its
+// deltas need no test.
 fn put_short_deltas(buffer: &mut [u8], at: usize, id: u64, time: u64, bits: u64) -> usize
     requires { ⌜ (id < 128) × (time < 128) × (at + length (rowTail id time bits) ≤ length (now buffer)) ⌝ }
     ensures { λ r. ⌜ r ≡ at + length (rowTail id time bits) ⌝ }
@@ -172,7 +176,7 @@ fn put_deltas(buffer: &mut [u8], at: usize, id: u64, time: u64, bits: u64) -> us
     put_long_deltas(buffer, at, id, time, bits)
 }
 
-// What types 2 and 4 share: a row.
+// A row, which types 2 and 4 share, at a place that has room for it; the place after it.
 pub(crate) fn put_row(
     buffer: &mut [u8],
     at: usize,
@@ -193,7 +197,7 @@ pub(crate) fn put_row(
     put_deltas(buffer, at, row.id, row.time, bits)
 }
 
-// How many bytes a tombstone takes.
+// The bytes that a tombstone takes.
 pub(crate) fn tombstone_size(min: Timestamp, max: Timestamp) -> usize
     ensures { λ r. ⌜ r ≡ tombstoneSize (min .0) (max .0) ⌝ }
 {

@@ -1,5 +1,5 @@
-// Building a record body in a lent slice, entry by entry. What the calls answer, and every lent byte afterwards, is what the definitions
-// of the crate body_format say.
+// Building a record body in a caller-owned buffer, entry by entry. The answers, and every byte of
+// the buffer afterwards, are those of body_format's definitions (FORMAT 10).
 mod builder;
 mod strings;
 
@@ -29,20 +29,21 @@ ghost use mathlib.Core.Path.{_≡_};
 ghost use Rattle.body_format.specs.Calls.{starter, builder, addSeries, addSample, addTombstone, addExemplar, addMetadata};
 ghost use Rattle.body_builder.specs.Answers.{addedOf};
 
-// The state of a body that is being built in a lent buffer: its type, and the bytes used.
+// The state of a body that is being built (FORMAT 10.1): its tag, and the bytes of the buffer used.
 pub struct Body {
     pub tag: u8,
     pub used: Offset,
 }
 
-// What starting a body or adding an entry answers: the next state, or why it is refused. A refusal changes no byte.
+// What starting a body or adding an entry answers: the next state, or the refusal. A refusal
+// changes no byte.
 pub enum Added {
     Next(Body),
     Refused(Refusal),
 }
 
 impl Body {
-    // A body of the type `tag`, with no entry yet.
+    // Starts a body of type `tag`: that byte, and no entry yet (FORMAT 10.2).
     pub fn start(buffer: &mut [u8], tag: u8) -> Added
         ensures answer { λ r. ⌜ r ≡ addedOf tag (starter (now (buffer .entry)) tag .outcome) ⌝ }
         ensures bytes { λ _. ⌜ now (buffer .exit) ≡ starter (now (buffer .entry)) tag .buffer ⌝ }

@@ -1,4 +1,4 @@
-// Strings as they are lent for building: one slice of bytes, and one of lengths.
+// Strings as the caller gives them for building: one slice of bytes, and one of lengths.
 use wal_types::RECORD_LIMIT;
 ghost use mathlib.Core.Path.{_≡_};
 ghost use Prim.Native.Nat.{_+_, _*_, _≤_};
@@ -8,7 +8,7 @@ ghost use lib.Seq.{sets};
 ghost use Rattle.body_format.specs.Building.{stringsBytes, stringListBytes, cutStrings, total, badList};
 ghost use Rattle.body_builder.specs.Sizes.{heads, listSize};
 
-// BadList: an odd number of strings, or lengths that do not add up to the bytes.
+// BadList (FORMAT 10.5): an odd number of strings, or lengths that do not add up to the bytes.
 pub(crate) fn list_is_bad(strings: &[u8], lengths: &[u64]) -> bool
     ensures { λ r. ⌜ r ≡ badList (now (strings .entry)) (now (lengths .entry)) ⌝ }
 {
@@ -35,7 +35,8 @@ fn add_up(lengths: &[u64], size: usize) -> bool
     left == 0
 }
 
-// How many bytes the list takes in a body. Above 65,536 it fits in no body, and any number above that will do.
+// The bytes that the list takes in a body. Lists of more than 65,536 strings or bytes fit in no
+// body; all of them get one size, so that no sum wraps.
 pub(crate) fn list_size(strings: &[u8], lengths: &[u64]) -> usize
     ensures { λ r. ⌜ (r ≡ listSize (length (now (strings .entry))) (now (lengths .entry))) × (r ≤ 1000000) ⌝ }
 {
@@ -52,7 +53,7 @@ pub(crate) fn list_size(strings: &[u8], lengths: &[u64]) -> usize
     both + strings.len()
 }
 
-// How many bytes the lengths take, each before its string.
+// The bytes that the lengths take, each before its string.
 fn heads_size(lengths: &[u64]) -> usize
     requires { ⌜ length (now lengths) ≤ 65536 ⌝ }
     ensures { λ r. ⌜ (r ≡ heads (now (lengths .entry))) × (r ≤ 10 * length (now (lengths .entry))) ⌝ }
@@ -78,7 +79,7 @@ pub(crate) fn put_list(buffer: &mut [u8], at: usize, strings: &[u8], lengths: &[
     put_strings(buffer, first, strings, lengths)
 }
 
-// The strings in a row, each behind its length.
+// The strings in a row, each after its length.
 fn put_strings(buffer: &mut [u8], at: usize, strings: &[u8], lengths: &[u64]) -> usize
     requires { ⌜ (total (now lengths) ≡ length (now strings)) × (at + length (stringsBytes (cutStrings (now strings) (now lengths))) ≤ length (now buffer)) ⌝ }
     ensures { λ r. ⌜ r ≡ at + length (stringsBytes (cutStrings (now (strings .entry)) (now (lengths .entry)))) ⌝ }

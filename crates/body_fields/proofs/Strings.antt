@@ -1,4 +1,4 @@
--- Strings: one, two, pairs of them, and a list behind its count, one step at a time.
+-- Strings: one, two, pairs of them, and a list after its count, one step at a time.
 use mathlib.Core.Path.{_≡_, refl, sym, ap, _∙_}
 use mathlib.Core.List.{List, _∷_}
 use Prim.Native.Nat.{ℕ, suc, _+_, _*_, _-_, _≤_, _<_}
@@ -47,7 +47,7 @@ module _ (s : List ℕ) (p : ℕ) where
 
 -- ---- pairs of strings
 
--- a string, and the place after it
+-- the place after a string
 abbrev after : Field StringField → ℕ
 after (got t q) = q
 after (fault why) = 0
@@ -74,7 +74,7 @@ pair-step s first k p c h =
     let twice : 2 * k ≡ suc (suc (2 * (k - 1))) = omega arith in
     rw twice (two-steps s first (2 * (k - 1)) p c (stringAt s p) _ refl refl)
 
--- `left` of `pairs` pairs are to be read from `at` on, behind `count` strings
+-- `left` of `pairs` pairs are still to be read, from `at` on, after `count` strings
 pub record Pairs (s : List ℕ) (first pairs at count left : ℕ) : Type 0 where
   pub inside : at ≤ length s
   pub few : count ≤ at
@@ -100,13 +100,13 @@ pair-turn s first pairs at count left i h r e = rw e (go (stringsAt 2 s at) refl
         (record { inside = b .1; few = few; same = t }, b .1, few)
     go (fault why) g = sym (step ∙ ap (λ (f : Field (List (List ℕ))). afterPair s first (2 * (left - 1)) count (endOf f)) g)
 
--- none are left
+-- no pair is left
 pub pairs-done : (s : List ℕ) (first pairs at count : ℕ) → Pairs s first pairs at count 0
     → list.Got count first at ≡ tally first 0 (stringsAt (2 * pairs) s first)
 unfolding stringsAt
 pairs-done s first pairs at count i = ap (λ (n : ℕ). list.Got n first at) (sym (add-zero count)) ∙ i .same
 
--- a list of strings
+-- a list of strings: its count, and then the strings
 pub list-1 : (s : List ℕ) (p : ℕ) {why : Refusal} → uvarintAt s p ≡ fault why → list.Fault why ≡ stringListRead (stringListAt s p)
 unfolding stringListAt
 list-1 s p h = rw h

@@ -1,4 +1,4 @@
--- Laws of ends: where fields one behind the other end, whatever is made of their values.
+-- Laws of ends: where fields that follow each other end, whatever is made of their values.
 -- Assumes nothing.
 use mathlib.Core.Path.{_≡_, refl, sym, ap, _∙_}
 use Prim.Native.Nat.{ℕ}
@@ -7,7 +7,7 @@ use Rattle.body_fields.specs.declared.Place.{Place}
 use Rattle.body_fields.specs.declared.Place.the-variants.{At, Fault}
 use Rattle.body_fields.specs.Ends.{endOf, onward}
 
--- a field and then what ends where h says
+-- a field, and then what ends where h says
 end-then : {A B : Type 0} (f : Field A) (g : A → ℕ → Field B) (h : ℕ → Place)
     → ((a : A) (q : ℕ) → endOf (g a q) ≡ h q) → endOf (andThen f g) ≡ onward (endOf f) h
 end-then (got a q) g h e = e a q

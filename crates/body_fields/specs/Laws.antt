@@ -1,5 +1,5 @@
 -- What an answer in the code's form says of the definition's reading: the value and the place after
--- it, or the fault; and laws of single numbers.
+-- it, or the fault. Also laws of single numbers.
 -- Assumes nothing.
 use mathlib.Core.Path.{_≡_, refl}
 use mathlib.Core.List.{List}
@@ -28,7 +28,7 @@ use Rattle.body_fields.specs.declared.StringListRead.{StringListRead}
 use Rattle.body_fields.specs.declared.StringListRead.the-variants as list
 use Rattle.body_fields.specs.Readings.{numberRead, signedRead, stringRead, stringListRead}
 
--- two answers of different cases are not one
+-- two answers of different cases are never equal
 pub never : {A : Type 0} → _≡_ {A = ℕ} 0 1 → A
 never z = absurd (omega arith)
 
@@ -71,7 +71,7 @@ list-fault (fault w) r e g = cc
 
 -- ---- numbers
 
--- a byte below 128 is a number
+-- a byte below 128 is a whole uvarint
 pub uvarint-one : (s : List ℕ) (p : ℕ) → p < length s → getD s p 0 < 128 → uvarintAt s p ≡ got (getD s p 0) (p + 1)
 unfolding readUvarint readGroups
 uvarint-one s p h l = uvarint-got s p (getD s p 0) 1 (rw (drop-cons s p 0 h, lt-ltb (getD s p 0) 128 l, readGroups))

@@ -1,6 +1,5 @@
--- The definitions' readings of fields in the forms that the calls hand back: of a string, where its
--- bytes start and how many they are; of a list of strings, how many they are and where the first
--- begins.
+-- The definitions' readings of fields in the forms that the calls return: a string by its start and
+-- length, a list of strings by their number and the place of the first.
 -- To be believed. Assumes nothing.
 use lib.IntN.{ℤ}
 use lib.ListN.{length}

@@ -1,5 +1,5 @@
-// Where the fields end: each is walked over without its value. A fault met on the way to a field
-// is handed on, so that a caller walks over the fields of an entry one behind the other.
+// Where the fields end: each is walked over without its value. A fault met on the way to a field is
+// passed on, so that a caller walks over the fields of an entry one after the other.
 use crate::NumberRead;
 use crate::Place;
 use crate::SignedRead;
@@ -15,7 +15,7 @@ ghost use Rattle.body_format.specs.Fields.{Field, byteAt, fixedAt, uvarintAt, v
 ghost use Rattle.body_fields.specs.Readings.{numberRead};
 ghost use Rattle.body_fields.specs.Ends.{endOf, onward};
 
-// The end of a number, whatever field it was read from.
+// The place after a number, whatever field it was read from.
 fn number_end(read: NumberRead) -> Place
     ensures { λ r. ⌜ ((f : Field ℕ) → read ≡ numberRead f → r ≡ endOf f) ⌝ }
 {
@@ -25,7 +25,7 @@ fn number_end(read: NumberRead) -> Place
     }
 }
 
-// A single byte.
+// The place after a single byte.
 pub fn byte_end(body: &[u8], from: Place) -> Place
     ensures { λ r. ⌜ r ≡ onward from (λ (at : ℕ). endOf (byteAt (now (body .entry)) at)) ⌝ }
 {
@@ -35,7 +35,7 @@ pub fn byte_end(body: &[u8], from: Place) -> Place
     }
 }
 
-// 8 bytes, big-endian.
+// The place after 8 bytes.
 pub fn fixed_end(body: &[u8], from: Place) -> Place
     ensures { λ r. ⌜ r ≡ onward from (λ (at : ℕ). endOf (fixedAt (now (body .entry)) at)) ⌝ }
 {
@@ -45,7 +45,7 @@ pub fn fixed_end(body: &[u8], from: Place) -> Place
     }
 }
 
-// A uvarint.
+// The place after a uvarint.
 pub fn uvarint_end(body: &[u8], from: Place) -> Place
     ensures { λ r. ⌜ r ≡ onward from (λ (at : ℕ). endOf (uvarintAt (now (body .entry)) at)) ⌝ }
 {
@@ -55,7 +55,7 @@ pub fn uvarint_end(body: &[u8], from: Place) -> Place
     }
 }
 
-// A signed varint.
+// The place after a signed varint.
 pub fn varint_end(body: &[u8], from: Place) -> Place
     ensures { λ r. ⌜ r ≡ onward from (λ (at : ℕ). endOf (varintAt (now (body .entry)) at)) ⌝ }
 {
@@ -68,7 +68,7 @@ pub fn varint_end(body: &[u8], from: Place) -> Place
     }
 }
 
-// A count n, and then 2n strings.
+// The place after a count n and its 2n strings.
 pub fn list_end(body: &[u8], from: Place) -> Place
     ensures { λ r. ⌜ r ≡ onward from (λ (at : ℕ). endOf (stringListAt (now (body .entry)) at)) ⌝ }
 {

@@ -1,5 +1,5 @@
-// The fields of a body, each read at its place. A fault is at the field's first byte. ends.rt walks
-// over them without their values.
+// The fields of a body (FORMAT 8), each decoded at its place. A fault is at the field's first byte.
+// ends.rt walks over them without their values.
 pub mod ends;
 
 use uvarint::UvarintRead;
@@ -61,7 +61,7 @@ pub fn fixed_at(body: &[u8], at: usize) -> NumberRead
     NumberRead::Got { value, next }
 }
 
-// A uvarint. Most have one byte, so that one is looked at first: a call costs more.
+// A uvarint. Most have one byte; that case is tested first, since it saves a call.
 pub fn uvarint_at(body: &[u8], at: usize) -> NumberRead
     ensures { λ r. ⌜ r ≡ numberRead (uvarintAt (now (body .entry)) at) ⌝ }
 {
@@ -105,7 +105,7 @@ pub fn varint_at(body: &[u8], at: usize) -> SignedRead
 
 // ---- strings
 
-// Where a string's bytes start, how many they are, and the place after them.
+// Where a string's bytes start, their number, and the place after them.
 pub enum StringRead {
     Got {
         start: usize,
@@ -115,7 +115,7 @@ pub enum StringRead {
     Fault(Refusal),
 }
 
-// How many strings a list has, where the first begins, and the place after the last.
+// The number of strings in a list, where the first begins, and the place after the last.
 pub enum StringListRead {
     Got {
         count: usize,
@@ -125,8 +125,8 @@ pub enum StringListRead {
     Fault(Refusal),
 }
 
-// A string with its length is one field. The length is compared with what remains, never added
-// before that.
+// A string with its length is one field (FORMAT 8.4). The length may be near 2^64, so it is
+// compared with the bytes that remain before it is added to a place.
 pub fn string_field_at(body: &[u8], at: usize) -> StringRead
     ensures { λ r. ⌜ r ≡ stringRead (stringAt (now (body .entry)) at) ⌝ }
 {
@@ -170,7 +170,7 @@ fn pair_at(body: &[u8], at: usize) -> Place
 }
 
 // So many pairs of strings. The strings are counted as they are found: twice the number of pairs
-// need not fit 64 bits.
+// need not fit 64 bits (FORMAT 9.2).
 fn pairs_at(body: &[u8], first: usize, pairs: u64) -> StringListRead
     requires { ⌜ first ≤ length (now body) ⌝ }
     ensures { λ r. ⌜ r ≡ tally first 0 (stringsAt (2 * pairs) (now (body .entry)) first) ⌝ }

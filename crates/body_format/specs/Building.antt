@@ -1,4 +1,4 @@
--- Document 01, "Bodies": starting a body, and adding an entry to it.
+-- FORMAT 10: starting a body, and adding an entry to it.
 -- To be believed. Assumes nothing.
 use mathlib.Core.Bool.{Bool, cond, _||_, _&&_, not}
 use mathlib.Core.List.{List, [], _∷_, _++_}
@@ -18,7 +18,7 @@ use Rattle.body_format.specs.Entries.{typeByte, Known, known, unknown, b
 
 -- ---- the bytes of an entry
 
--- a string: its length (uvarint), and its bytes
+-- a string: its length (uvarint), and its bytes (FORMAT 8.4)
 unfoldable pub stringBytes : List ℕ → List ℕ
 stringBytes t = uvarint (length t) ++ t
 
@@ -26,7 +26,7 @@ unfoldable pub stringsBytes : List (List ℕ) → List ℕ
 stringsBytes [] = []
 stringsBytes (t ∷ ts) = stringBytes t ++ stringsBytes ts
 
--- a list of strings: half their number (uvarint), and the strings
+-- a list of strings: half their number (uvarint), and the strings (FORMAT 10.3)
 unfoldable pub stringListBytes : List (List ℕ) → List ℕ
 stringListBytes ts = uvarint (length ts / 2) ++ stringsBytes ts
 
@@ -34,14 +34,15 @@ stringListBytes ts = uvarint (length ts / 2) ++ stringsBytes ts
 abbrev pub deltaBytes : ℕ → List ℕ
 deltaBytes d = uvarint d
 
--- The row of id, time (its 64 bits) and value, behind `used` bytes of the body that buffer b holds. The first entry brings the first id and the
--- first timestamp, and a row with both deltas 0; a later one has its deltas to those in bytes 1 to 16, modulo 2^64.
+-- The row of id, time (its 64 bits) and value, after the `used` bytes of the body in buffer b
+-- (FORMAT 10.4). The first entry writes the first id, the first timestamp, and a row with both
+-- deltas 0. A later one writes its deltas to those in bytes 1 to 16, modulo 2^64.
 unfoldable pub rowBytes : List ℕ → ℕ → ℕ → ℕ → ℕ → List ℕ
 rowBytes b used id time v =
     cond (eqb used 1) (be8 id ++ (be8 time ++ (deltaBytes 0 ++ (deltaBytes 0 ++ be8 v))))
     (deltaBytes (minus id (readBe8 (drop 1 b))) ++ (deltaBytes (minus time (readBe8 (drop 9 b))) ++ be8 v))
 
--- the bytes that an entry puts down behind `used` bytes of the body that buffer b holds
+-- the bytes of an entry, written after the `used` bytes of the body in buffer b
 unfoldable pub entryBytes : List ℕ → ℕ → Entry → List ℕ
 entryBytes b used (seriesEntry id ts) = be8 id ++ stringListBytes ts
 entryBytes b used (sampleEntry id time v) = rowBytes b used id (toBits time) v
@@ -49,7 +50,7 @@ entryBytes b used (tombstoneEntry id min max) = be8 id ++ (varint min ++ varint 
 entryBytes b used (exemplarEntry id time v ts) = rowBytes b used id (toBits time) v ++ stringListBytes ts
 entryBytes b used (metadataEntry id metric ts) = uvarint id ++ (metric ∷ stringListBytes ts)
 
--- ---- strings as they are lent: one slice of bytes, and one of lengths
+-- ---- strings as the caller gives them: one slice of bytes, and one of lengths
 
 -- the strings: each takes its length from the front of what is left
 unfoldable pub cutStrings : List ℕ → List ℕ → List (List ℕ)
@@ -60,18 +61,18 @@ unfoldable pub total : List ℕ → ℕ
 total [] = 0
 total (n ∷ lengths) = n + total lengths
 
--- BadList: an odd number of strings, or lengths that do not add up to the slice
+-- BadList (FORMAT 10.5): an odd number of strings, or lengths that do not add up to the slice
 unfoldable pub badList : List ℕ → List ℕ → Bool
 badList bytes lengths = eqb (length lengths % 2) 1 || not (eqb (total lengths) (length bytes))
 
 -- ---- starting and adding
 
--- what starting or adding comes to: the bytes of the body that are then used, or a refusal
+-- the outcome of starting or adding: the bytes of the body that are then used, or a refusal
 pub data Outcome : Type 0 where
   used : ℕ → Outcome
   refused : Refusal → Outcome
 
--- starting a body of the type byte t in a buffer b: UnknownType, NoRoom
+-- starting a body of tag t in a buffer b (FORMAT 10.2): UnknownType, NoRoom
 abbrev pub startKnown : Known → List ℕ → Outcome
 startKnown (known k) b = cond (eqb (length b) 0) (refused (NoRoom (offset 0))) (used 1)
 startKnown unknown b = refused UnknownType
@@ -79,18 +80,19 @@ startKnown unknown b = refused UnknownType
 unfoldable pub start : List ℕ → ℕ → Outcome
 start b t = startKnown (bodyTypeOf t) b
 
--- the buffer afterwards: the type byte stands first
+-- the buffer afterwards: the tag is its first byte; a refusal changes no byte
 abbrev pub startBytes : Outcome → List ℕ → ℕ → List ℕ
 startBytes (used n) b t = sets b 0 (t ∷ [])
 startBytes (refused why) b t = b
 
--- A state is the type t and the u bytes used. It is BadPlace if these are 0, more than the buffer has, 2 to 16 for types 2 and 4, or if the buffer's first
--- byte is not the type.
+-- A state is the tag t and the u bytes used. BadPlace (FORMAT 10.5): u is 0, or more than the
+-- buffer has, or 2 to 16 for types 2 and 4, or the buffer's first byte is not t.
 unfoldable pub badState : List ℕ → ℕ → ℕ → Bool
 badState b t u =
     eqb u 0 || (ltb (length b) u || ((rowsKnown (bodyTypeOf t) && (leb 2 u && leb u 16)) || not (eqb (getD b 0 0) t)))
 
--- adding an entry to the state (t, u) of a body in buffer b, `bad` if its list of strings is: BadPlace, WrongKind, BadList, TooLong, NoRoom
+-- adding an entry to the state (t, u) of a body in buffer b, where `bad` says whether its list of
+-- strings is bad. In this order (FORMAT 10.5): BadPlace, WrongKind, BadList, TooLong, NoRoom.
 unfoldable pub add : List ℕ → ℕ → ℕ → Entry → Bool → Outcome
 add b t u e bad =
     cond (badState b t u) (refused BadPlace)
@@ -100,7 +102,7 @@ add b t u e bad =
     (cond (ltb (length b) (u + length (entryBytes b u e))) (refused (NoRoom (offset u)))
     (used (u + length (entryBytes b u e)))))))
 
--- the buffer afterwards: the entry's bytes stand from the old place on, and a refusal changes no byte
+-- the buffer afterwards: the entry's bytes from the old place on; a refusal changes no byte
 abbrev pub addBytes : Outcome → List ℕ → ℕ → Entry → List ℕ
 addBytes (used n) b u e = sets b u (entryBytes b u e)
 addBytes (refused why) b u e = b

@@ -1,4 +1,5 @@
--- Lists of calls on a body: additions to a started body, and reading entry by entry, for any builder and any reader.
+-- Lists of calls on a body, for any builder and any reader: additions to a started body, and
+-- reading entry by entry.
 -- To be believed. Assumes nothing.
 use mathlib.Core.Path.{_≡_}
 use mathlib.Core.Bool.{Bool, false}
@@ -18,7 +19,7 @@ use Rattle.body_format.specs.Building.{cutStrings, badList, Outcome, use
 
 -- ---- building
 
--- what one addition is given. Strings are lent as one slice of bytes and one of lengths.
+-- what one addition is given. The strings are one slice of bytes and one of lengths.
 pub data Addition : Type 0 where
   addSeries : ℕ → List ℕ → List ℕ → Addition
   addSample : ℕ → ℤ → ℕ → Addition
@@ -46,14 +47,15 @@ pub record BuildResult : Type 0 where
   pub outcome : Outcome
   pub buffer : List ℕ
 
--- a starter: from the lent buffer and a type byte; a builder: from the lent buffer, a state (type and bytes used) and an addition
+-- a starter takes the caller's buffer and a tag; a builder takes the buffer, a state (tag and bytes
+-- used) and an addition
 abbrev pub Starter : Type 0
 Starter = List ℕ → ℕ → BuildResult
 
 abbrev pub Builder : Type 0
 Builder = List ℕ → ℕ → ℕ → Addition → BuildResult
 
--- document 01's own
+-- the format's own
 abbrev pub starter : Starter
 starter b t = record { outcome = start b t; buffer = startBytes (start b t) b t }
 
@@ -69,7 +71,8 @@ usedThen (used n) u = n
 usedThen (refused why) u = u
 
 module _ (B : Builder) (t : ℕ) where
-  -- the buffer after a list of additions to a body of type t, each with the state last handed back, and the bytes then used
+  -- the buffer after a list of additions to a body of tag t, each with the state last handed back,
+  -- and the bytes then used
   unfoldable pub finalBuffer : List ℕ → ℕ → List Addition → List ℕ
   finalBuffer b u [] = b
   finalBuffer b u (a ∷ rest) = finalBuffer (B b t u a .buffer) (usedThen (B b t u a .outcome) u) rest
@@ -78,7 +81,7 @@ module _ (B : Builder) (t : ℕ) where
   finalUsed b u [] = u
   finalUsed b u (a ∷ rest) = finalUsed (B b t u a .buffer) (usedThen (B b t u a .outcome) u) rest
 
--- an entry is added where document 01 does not refuse the addition
+-- an entry is added where the format does not refuse the addition
 abbrev pub withEntry : Outcome → Entry → List Entry → List Entry
 withEntry (used n) e es = e ∷ es
 withEntry (refused why) e es = es
@@ -99,7 +102,8 @@ EntryReader = List ℕ → ℕ → EntryAnswer
 abbrev pub StringReader : Type 0
 StringReader = List ℕ → ℕ → StringAnswer
 
--- what the claims speak of: starting a body, adding to it, checking it, reading an entry and reading a string
+-- what the claims are about: starting a body, adding to it, checking it, reading an entry and
+-- reading a string
 pub record BodyCalls : Type 0 where
   pub start : Starter
   pub add : Builder
@@ -107,7 +111,7 @@ pub record BodyCalls : Type 0 where
   pub entry : EntryReader
   pub string : StringReader
 
--- document 01's own
+-- the format's own
 abbrev pub bodyCalls : BodyCalls
 bodyCalls = record { start = starter; add = builder; check = checkBody; entry = readEntry; string = readString }
 
@@ -124,7 +128,8 @@ stringsOf (tombstoneEntry id min max) = []
 stringsOf (exemplarEntry id time v ts) = ts
 stringsOf (metadataEntry id metric ts) = ts
 
--- reading an entry at each place in turn, from place p on, walks exactly these entries, and then comes to the plain end
+-- reading an entry at each place in turn, from place p on, gives exactly these entries, and then
+-- the plain end
 pub data Walks (E : EntryReader) (S : StringReader) (s : List ℕ) : ℕ → List Entry → Type 0 where
   next : {p q : ℕ} {e : Entry} {es : List Entry} (first : ℕ)
       → E s p ≡ EntryFound (view e first q)

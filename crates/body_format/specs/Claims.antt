@@ -1,5 +1,5 @@
--- What is claimed of building and reading bodies, over whole lists of calls: demand 1 as far as it speaks of lent bytes, and demand 2, "Every body that is
--- built reads back as the entries put in". Nothing else stands here. Document 01's own calls keep it (Theorems).
+-- What is claimed of building and reading bodies: demand 1 as far as it is about the caller's
+-- bytes, and demand 2. The format's own calls keep both (Theorems).
 -- To be believed. Assumes nothing.
 use mathlib.Core.Path.{_≡_}
 use mathlib.Core.List.{List, [], _∷_}
@@ -14,12 +14,12 @@ use Rattle.body_format.specs.Reading.{checkBody, readEntry, readString}
 use Rattle.body_format.specs.Building.{used, refused, start}
 use Rattle.body_format.specs.Calls.{Addition, addSeries, addSample, addTombstone, addExemplar, addMetadata, starter, builder, finalBuffer, finalUsed, added, BodyCalls, Walks}
 
--- DEMAND 1, what it says of lent bytes
+-- DEMAND 1, what it says of the caller's bytes
 pub record Demand1 (C : BodyCalls) : Type 0 where
   -- a refusal changes no byte
   pub start-refused : (b : List ℕ) (t : ℕ) (why : Refusal) → C .start b t .outcome ≡ refused why → C .start b t .buffer ≡ b
   pub add-refused : (b : List ℕ) (t u : ℕ) (a : Addition) (why : Refusal) → C .add b t u a .outcome ≡ refused why → C .add b t u a .buffer ≡ b
-  -- starting a body writes its type byte, and nothing else
+  -- starting a body writes its tag, and nothing else
   pub start-byte : (b : List ℕ) (t n : ℕ) → C .start b t .outcome ≡ used n → C .start b t .buffer ≡ t ∷ drop 1 b
   -- an addition changes only the bytes from the old place to the new
   pub within : (b : List ℕ) (t u n : ℕ) (a : Addition)
@@ -27,7 +27,7 @@ pub record Demand1 (C : BodyCalls) : Type 0 where
       → (u ≤ n) × (n ≤ length b) × (length (C .add b t u a .buffer) ≡ length b)
       × (take u (C .add b t u a .buffer) ≡ take u b) × (drop n (C .add b t u a .buffer) ≡ drop n b)
 
--- the numbers of an addition are of 64 bits, and a metric type is a byte, as the calls' types have them
+-- the numbers of an addition have 64 bits, and a metric type is a byte, as the calls' types say
 abbrev pub InRange : Addition → Type 0
 InRange (addSeries id bytes lengths) = id < 2 ^ 64
 InRange (addSample id time v) = (id < 2 ^ 64) × (mag time < 2 ^ 63) × (v < 2 ^ 64)
@@ -39,18 +39,20 @@ abbrev pub AllInRange : List Addition → Type 0
 AllInRange [] = Unit {0}
 AllInRange (a ∷ rest) = InRange a × AllInRange rest
 
--- the bytes of the body that a list of additions makes in buffer b, from a start with type t
+-- the bytes of the body that a list of additions makes in buffer b, from a start with tag t
 abbrev pub bodyMade : BodyCalls → List ℕ → ℕ → List Addition → List ℕ
 bodyMade C b t xs = take (finalUsed (C .add) t (C .start b t .buffer) 1 xs) (finalBuffer (C .add) t (C .start b t .buffer) 1 xs)
 
 -- DEMAND 2, for bodies
 pub record Demand2 (C : BodyCalls) : Type 0 where
-  -- starting and adding come to what document 01 says, refused exactly where it says, and leave the buffer as it says, byte for byte
+  -- starting and adding give what the format says, are refused exactly where it says, and leave the
+  -- buffer as it says, byte for byte (FORMAT 10)
   pub starts : (b : List ℕ) (t : ℕ) → C .start b t ≡ starter b t
   pub adds : (b : List ℕ) (t u : ℕ) (a : Addition) → C .add b t u a ≡ builder b t u a
-  -- the count is the length of the list that the definition reads, and every fault is the definition's first
+  -- the count is the length of the list that the definition reads, and every fault is the
+  -- definition's first (FORMAT 11.2)
   pub counts : (s : List ℕ) → C .check s ≡ checkBody s
-  -- an entry and a string are read at a place as the definition says
+  -- an entry and a string are read at a place as the definition says (FORMAT 11.3, 11.4)
   pub reads : (s : List ℕ) (p : ℕ) → C .entry s p ≡ readEntry s p
   pub strings : (s : List ℕ) (p : ℕ) → C .string s p ≡ readString s p
   -- reading an entry at each place in turn walks exactly that list
@@ -58,8 +60,8 @@ pub record Demand2 (C : BodyCalls) : Type 0 where
       → bodyTypeOf b ≡ known k
       → entries k (b ∷ s) ≡ got es p
       → Walks (C .entry) (C .string) (b ∷ s) 1 es
-  -- every body that is built reads back as the entries put in, by the check and by a walk: for every list of additions to a started body, refused ones
-  -- included, in any buffer
+  -- every body that is built reads back as the entries put in, by the check and by a walk: for
+  -- every list of additions to a started body, refused ones included, in any buffer
   pub back : (b : List ℕ) (t : ℕ) (xs : List Addition)
       → AllInRange xs
       → start b t ≡ used 1

@@ -1,4 +1,5 @@
--- Document 01, "Bodies": the five types, and the list of entries that a body holds.
+-- FORMAT 9: the five types of a body, the layout of each one's entries, and the list of entries
+-- that a body holds.
 -- To be believed. Assumes nothing.
 use mathlib.Core.Bool.{Bool, true, false, cond}
 use mathlib.Core.List.{List, [], _∷_}
@@ -15,7 +16,7 @@ use Rattle.body_format.specs.Fields.{Field, got, andThen, byteAt, fixedA
 pub data BodyType : Type 0 where
   series samples tombstones exemplars metadata : BodyType
 
--- the type byte of each
+-- the tag of each: a body's first byte (FORMAT 9.1)
 abbrev pub typeByte : BodyType → ℕ
 typeByte series = 1
 typeByte samples = 2
@@ -23,7 +24,7 @@ typeByte tombstones = 3
 typeByte exemplars = 4
 typeByte metadata = 6
 
--- the type that a byte stands for, where it is one that is known
+-- the type that a byte is the tag of, or none
 pub data Known : Type 0 where
   known : BodyType → Known
   unknown : Known
@@ -36,7 +37,7 @@ bodyTypeOf b =
     (cond (eqb b (typeByte exemplars)) (known exemplars)
     (cond (eqb b (typeByte metadata)) (known metadata) unknown))))
 
--- samples and exemplars have rows, behind a first id and a first timestamp
+-- samples and exemplars have rows, after a first id and a first timestamp (FORMAT 9.3)
 abbrev pub hasRows : BodyType → Bool
 hasRows series = false
 hasRows samples = true
@@ -44,14 +45,15 @@ hasRows tombstones = false
 hasRows exemplars = true
 hasRows metadata = false
 
--- whether a byte stands for such a type
+-- whether a tag is that of a type with rows
 abbrev pub rowsKnown : Known → Bool
 rowsKnown (known k) = hasRows k
 rowsKnown unknown = false
 
 -- ---- entries
 
--- ids and values are numbers below 2^64, times are signed, a metric type is a byte, and a string is a list of bytes
+-- ids and values are numbers below 2^64, times are signed, a metric type is a byte, and a string is
+-- a list of bytes
 pub data Entry : Type 0 where
   seriesEntry : ℕ → List (List ℕ) → Entry
   sampleEntry : ℕ → ℤ → ℕ → Entry
@@ -67,7 +69,7 @@ bodyTypeFor (tombstoneEntry id min max) = tombstones
 bodyTypeFor (exemplarEntry id time bits ts) = exemplars
 bodyTypeFor (metadataEntry id metric ts) = metadata
 
--- an entry as it stands in a body, with the place where its strings begin; where it has none, that is the place after it
+-- an entry, and the place where its strings begin; where it has none, that is the place after it
 pub record Placed : Type 0 where
   pub entry : Entry
   pub first : ℕ
@@ -78,11 +80,12 @@ pub record Row : Type 0 where
   pub time : ℤ
   pub bits : ℕ
 
--- a delta as it stands in a row
+-- a delta of a row
 abbrev pub deltaAt : List ℕ → ℕ → Field ℕ
 deltaAt s p = uvarintAt s p
 
--- id delta, timestamp delta, value (8). A delta is added modulo 2^64 to the first id, bytes 1 to 8, or to the first timestamp, bytes 9 to 16.
+-- id delta, timestamp delta, value (8). A delta is added modulo 2^64 (FORMAT 9.3): to the first id,
+-- bytes 1 to 8, or to the first timestamp, bytes 9 to 16.
 unfoldable pub rowAt : List ℕ → ℕ → Field Row
 rowAt s p =
     andThen (deltaAt s p) (λ d q.
@@ -140,13 +143,15 @@ entriesFrom (suc n) k s p =
     cond (eqb p (length s)) (got [] p)
     (andThen (entryAt k s p) (λ e q. andThen (entriesFrom n k s q) (λ es r. got (e .entry ∷ es) r)))
 
--- where the entries of a body begin: at place 1; in a body of rows that has any byte after its type, behind the first id (8) and the first timestamp (8)
+-- where the entries of a body begin: at place 1, or in a body of rows that has any byte after its
+-- tag, after the first id (8) and the first timestamp (8)
 abbrev pub firstAt : Bool → List ℕ → Field ℕ
 firstAt false s = got 1 1
 firstAt true s =
     cond (eqb (length s) 1) (got 1 1)
     (andThen (fixedAt s 1) (λ id q. andThen (fixedAt s q) (λ time r. got r r)))
 
--- the entries of a body of tag k, or its first fault from the left. Every entry has a byte, so there are no more than the body has bytes.
+-- the entries of a body of type k, or its first fault from the left (FORMAT 11.2). Every entry has
+-- a byte, so there are no more of them than the body has bytes.
 unfoldable pub entries : BodyType → List ℕ → Field (List Entry)
 entries k s = andThen (firstAt (hasRows k) s) (λ first p. entriesFrom (length s) k s first)

@@ -1,4 +1,5 @@
--- Document 01, "Bodies": the fields of a body, each read at its place. A fault is at the field's first byte.
+-- FORMAT 8: the fields of a body, each read at its place. A fault is at the field's first byte
+-- (FORMAT 8.5).
 -- To be believed. Assumes nothing.
 use mathlib.Core.Bool.{cond}
 use mathlib.Core.List.{List, [], _∷_}
@@ -61,7 +62,7 @@ pub record StringField : Type 0 where
   pub start : ℕ
   pub bytes : List ℕ
 
--- "A string with its length is one field": whatever is wrong with either is at the length's first byte
+-- a string with its length is one field (FORMAT 8.4): any fault is at the length's first byte
 unfoldable pub stringAt : List ℕ → ℕ → Field StringField
 stringAt s p =
     andThen (uvarintAt s p) (λ n q.
@@ -78,7 +79,7 @@ pub record StringList : Type 0 where
   pub first : ℕ
   pub strings : List (List ℕ)
 
--- a count n (uvarint), and then 2n strings
+-- a count n (uvarint), and then 2n strings (FORMAT 9.2)
 unfoldable pub stringListAt : List ℕ → ℕ → Field StringList
 stringListAt s p =
     andThen (uvarintAt s p) (λ n q. andThen (stringsAt (2 * n) s q) (λ ts r. got (record { first = q; strings = ts }) r))

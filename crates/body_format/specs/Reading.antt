@@ -1,5 +1,5 @@
--- Document 01, "Bodies": what checking a body, reading an entry at a place and reading a string at a place answer. For bodies the order of
--- refusals is EmptyBody, UnknownType, BadPlace, then the first fault from the left.
+-- FORMAT 11: what checking a body, reading an entry and reading a string at a place answer. Order
+-- of refusals (FORMAT 12.2): EmptyBody, UnknownType, BadPlace, then the first fault from the left.
 -- To be believed. Assumes nothing.
 use mathlib.Core.Bool.{Bool, cond, _||_, _&&_}
 use mathlib.Core.List.{List, [], _∷_}
@@ -29,14 +29,15 @@ abbrev pub checkKnown : Known → List ℕ → CheckAnswer
 checkKnown (known k) s = checkFields (entries k s)
 checkKnown unknown s = CheckRefused UnknownType
 
--- the number of entries of the body s, or why it is refused
+-- the number of entries of the body s, or the refusal (FORMAT 11.2)
 unfoldable pub checkBody : List ℕ → CheckAnswer
 checkBody [] = CheckRefused EmptyBody
 checkBody (b ∷ s) = checkKnown (bodyTypeOf b) (b ∷ s)
 
 -- ---- an entry at a place
 
--- how an entry with the strings from place `first` on and the place `next` after it is told
+-- how an entry is reported, with its strings from place `first` on and the place `next` after it
+-- (FORMAT 11.3)
 abbrev pub view : Entry → ℕ → ℕ → EntryView
 view (seriesEntry id ts) first next = record {
   tag = typeByte series;
@@ -97,12 +98,12 @@ answerEntry (fault why) = EntryRefused why
 unfoldable pub entryOrEnd : BodyType → List ℕ → ℕ → EntryAnswer
 entryOrEnd k s p = cond (eqb p (length s)) End (answerEntry (entryAt k s p))
 
--- the first entry: place 1 stands for the place where the entries begin
+-- the first entry: place 1 means the place where the entries begin
 abbrev pub firstEntry : BodyType → List ℕ → Field ℕ → EntryAnswer
 firstEntry k s (got p q) = entryOrEnd k s p
 firstEntry k s (fault why) = EntryRefused why
 
--- place 0, past the body, or 2 to 16 in types 2 and 4
+-- BadPlace (FORMAT 11.3): place 0, past the body, or 2 to 16 in types 2 and 4
 unfoldable pub badPlace : BodyType → List ℕ → ℕ → Bool
 badPlace k s p = eqb p 0 || (ltb (length s) p || (hasRows k && (leb 2 p && leb p 16)))
 
@@ -122,7 +123,7 @@ abbrev pub answerString : Field StringField → StringAnswer
 answerString (got t next) = StringFound (offset (t .start)) (length (t .bytes))
 answerString (fault why) = StringRefused why
 
--- place 0 or past the body is BadPlace, and the body's end is Short
+-- BadPlace (FORMAT 11.4): place 0 or past the body; the body's end is Short
 abbrev pub stringKnown : Known → List ℕ → ℕ → StringAnswer
 stringKnown (known k) s p = cond (eqb p 0 || ltb (length s) p) (StringRefused BadPlace) (answerString (stringAt s p))
 stringKnown unknown s p = StringRefused UnknownType

@@ -1,6 +1,5 @@
--- Stand-ins that do not keep demand 2: "An invented entry count fails the list's length"; a reader that ends at once fails the walk; a builder that
--- always says NoRoom fails the exact rule for it, one that puts nothing down fails reading back, and one whose bytes read back the same, but are others than
--- document 01's, fails those.
+-- Stand-ins that do not keep demand 2: an invented count, a reader that ends at once, and builders
+-- that always say NoRoom, that write nothing, or whose bytes read back but are not the format's.
 -- Assumes nothing.
 use mathlib.Core.Path.{_≡_, refl, sym, ap, _∙_}
 use mathlib.Core.Bool.{false, cond}
@@ -45,15 +44,15 @@ abbrev pub oneMore : CheckAnswer → CheckAnswer
 oneMore (Entries n) = Entries (suc n)
 oneMore (Refused why) = Refused why
 
--- a checker that answers another count for it, whatever the other calls do
+-- a checker that answers another count for this body, whatever the other calls do
 pub invented : (C : BodyCalls) (n : ℕ) → C .check oneTombstone ≡ Entries n → (n ≡ 1 → ⊥) → Demand2 C → ⊥
 invented C n e h d = let same : Entries n ≡ Entries 1 = sym e ∙ d .counts oneTombstone ∙ one-counted in h (cc)
 
--- one that finds no entry in any body
+-- a checker that finds no entry in any body
 pub always-none : (C : BodyCalls) → ((s : List ℕ) → C .check s ≡ Entries 0) → Demand2 C → ⊥
 always-none C none d = invented C 0 (none oneTombstone) (λ z. omega arith) d
 
--- one that counts one too many
+-- a checker that counts one too many
 pub one-too-many : (C : BodyCalls) → ((s : List ℕ) → C .check s ≡ oneMore (checkBody s)) → Demand2 C → ⊥
 one-too-many C many d = invented C 2 (many oneTombstone ∙ ap oneMore one-counted) (λ z. omega arith) d
 
@@ -95,7 +94,7 @@ always-full C full d =
     let z : _≡_ {A = ℕ} 0 1 = cc in
     omega arith
 
--- a builder that answers as document 01 says and puts nothing down
+-- a builder that answers as the format says and writes nothing
 abbrev pub writesNothing : Builder
 writesNothing b t u a = record { outcome = add b t u (entryFor a) (listIsBad a); buffer = b }
 
@@ -113,7 +112,8 @@ nothing-down C E S d =
     cc (sym nothing-there ∙ sym (d .counts _) ∙ d .back eleven 3 (addition ∷ []) ((omega arith, omega arith, omega arith), tt) refl .0) in
     omega arith
 
--- a builder of samples whose first row has the id before and a delta of 1, in place of the id and a delta of 0
+-- a builder of samples that writes the first id less 1 and a first delta of 1, where the format has
+-- the id and a delta of 0
 abbrev shiftedBytes : Outcome → List ℕ → ℕ → ℕ → ℤ → ℕ → List ℕ
 shiftedBytes (used n) b u id time v =
     cond (eqb u 1) (sets b 1 (be8 (minus id 1) ++ (be8 (toBits time) ++ (deltaBytes 1 ++ (deltaBytes 0 ++ be8 v)))))
@@ -137,7 +137,7 @@ fresh = 2 ∷ replicate 26 0
 abbrev seven : Addition
 seven = addSample 7 (pos 0) 0
 
--- reading back alone does not stop it: the sample comes out as it was put in
+-- reading back alone does not find it: the sample comes out as it was put in
 pub shifted-walks : Walks readEntry readString (shiftsFirst fresh 2 1 seven .buffer) 1 (entryFor seven ∷ [])
 unfolding add badState bodyTypeOf entryBytes rowBytes be8 be4 uvarint groups minus plus toBits fromBits readEntry entryOrEnd badPlace fixedAt sampleAt rowAt uvarintAt readUvarint readGroups after readBe8 readBe4
 shifted-walks = next 27 refl tt (done refl)

@@ -1,4 +1,4 @@
--- Document 01's own calls keep what Claims demands.
+-- The format's own calls keep what Claims demands.
 -- Assumes nothing.
 use mathlib.Core.Path.{refl, ap}
 use mathlib.Core.List.{List, []}
@@ -13,7 +13,7 @@ use Rattle.body_format.specs.Laws.Additions.{accepted, start-bytes, sets
 use Rattle.body_format.specs.Laws.Walks.{entries-walk}
 use Rattle.body_format.specs.Laws.Built.{body-checks, body-walks, started, built}
 
--- lent bytes
+-- the caller's bytes
 pub demand1 : Demand1 bodyCalls
 demand1 = record {
   start-refused = λ b t why e. ap (λ o. startBytes o b t) e;

@@ -1,4 +1,4 @@
--- Where entries end: where their fields do, one behind the other.
+-- Where entries end: where their fields do, one after the other.
 use mathlib.Core.Path.{_≡_}
 use mathlib.Core.List.{List}
 use Prim.Native.Nat.{ℕ}

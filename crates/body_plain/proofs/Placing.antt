@@ -1,4 +1,4 @@
--- Which entry a place stands for in a body without rows: the one there, since place 1 is the first
+-- Which entry a place means in a body without rows: the one there, since place 1 is the first
 -- entry's own.
 use mathlib.Core.Path.{_≡_, refl, sym, ap, _∙_}
 use mathlib.Core.Bool.{Bool, true, false}

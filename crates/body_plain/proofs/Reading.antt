@@ -1,4 +1,4 @@
--- What each entry's fields come to, fault by fault, in the code's forms.
+-- What each entry's fields give, fault by fault, in the code's forms.
 use mathlib.Core.Path.{_≡_}
 use mathlib.Core.List.{List}
 use Prim.Native.Nat.{ℕ}

@@ -1,5 +1,5 @@
-// Types 1, 3 and 6: entries that stand alone. Each is read at its place, or only walked over to its
-// end: counting needs no more.
+// Types 1, 3 and 6 (FORMAT 9.1): entries that stand alone. Each is read at its place, or only
+// walked over to its end: counting needs no more.
 use body_fields::NumberRead;
 use body_fields::Place;
 use body_fields::SignedRead;

@@ -47,7 +47,7 @@ one-more : (c : ℕ) (e : Entry) (f : Field (List Entry))
 one-more c e (got es r) = ap Entries (omega arith)
 one-more c e (fault why) = refl
 
--- from `at` on, behind `count` entries; `fuel` is more than the bytes left
+-- at `at`, after `count` entries; `fuel` is more than the bytes left
 pub record Counting (k : BodyType) (s : List ℕ) (first at count : ℕ) : Type 0 where
   pub fuel : ℕ
   pub enough : length s - at < fuel
@@ -89,7 +89,7 @@ end-turn k s first at count i l r e = rw e (go (i .fuel) (i .enough) (i .same))
     go zero m same = absurd (omega arith)
     go (suc n) m same = end-step k s first at count n m l (i .few) same (entryAt k s at) refl
 
--- none is left
+-- no entry is left
 pub count-done : (k : BodyType) (s : List ℕ) (first at count : ℕ) → Counting k s first at count → length s ≤ at
     → Entries count ≡ checkFields (entriesFrom (length s) k s first)
 count-done k s first at count i l =
@@ -97,7 +97,7 @@ count-done k s first at count i l =
 
 -- ---- where the entries begin
 
--- what the place that was found says
+-- what the place that was found says of the definition's reading
 pub place-at : (f : Field ℕ) (r : Place) {p : ℕ} → r ≡ placeRead f → r ≡ At p → (q : ℕ) × (f ≡ got p q)
 place-at (got n q) r e g = (q, cc)
 place-at (fault w) r e g = never cc
@@ -106,7 +106,7 @@ pub place-fault : (f : Field ℕ) (r : Place) {why : Refusal} → r ≡ placeRea
 place-fault (got n q) r e g = never cc
 place-fault (fault w) r e g = cc
 
--- all of them
+-- the whole check: where the entries begin, and then all of them
 pub check-all : (k : BodyType) (s : List ℕ) {first : ℕ}
     → checkBody s ≡ checkKnown (known k) s → (q : ℕ) × (firstAt (hasRows k) s ≡ got first q)
     → checkFields (entriesFrom (length s) k s first) ≡ checkBody s
@@ -118,7 +118,7 @@ pub check-fault : (k : BodyType) (s : List ℕ) {why : Refusal}
 unfolding entries
 check-fault k s h e = rw (h, e)
 
--- they begin behind place 0, and no later than the body ends
+-- they begin after place 0, and no later than the body ends
 pub first-inside : (t : Bool) (s : List ℕ) {p : ℕ} → 0 < length s → (q : ℕ) × (firstAt t s ≡ got p q)
     → (0 < p) × (p ≤ length s)
 first-inside t s {p} h (q, e) = let b = of-got _ (firstAt t s) p q (first-bounds t s h) e in (b .0, b .1)

@@ -23,7 +23,7 @@ abbrev pub byType : {A : Type 0} → (Refusal → A) → (BodyType → A) → Ty
 byType r f (type.Known k) = f (typeIn k)
 byType r f (type.Refused why) = r why
 
--- one that is f of a known type, and UnknownType of any other byte
+-- an answer that is f of a known type, and UnknownType of any other byte
 same : {A : Type 0} (r : Refusal → A) (f : Known → A) → f unknown ≡ r UnknownType → (n : Known)
     → f n ≡ byType r (λ k. f (known k)) (typeFound n)
 same r f e (known series) = refl

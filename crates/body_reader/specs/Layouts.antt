@@ -1,4 +1,4 @@
--- The types of a body in the forms that the private functions hand on.
+-- The types of a body in the forms that the private functions return.
 -- Assumes nothing.
 use mathlib.Core.Bool.{true, false}
 use mathlib.Core.List.{List, [], _∷_}
@@ -29,7 +29,7 @@ abbrev pub typeFound : Known → TypeRead
 typeFound (known k) = type.Known (bodyLayout k)
 typeFound unknown = type.Refused UnknownType
 
--- a body's first refusals: EmptyBody, UnknownType
+-- a body's first refusals (FORMAT 11.1): EmptyBody, UnknownType
 unfoldable pub typeRead : List ℕ → TypeRead
 typeRead [] = type.Refused EmptyBody
 typeRead (b ∷ s) = typeFound (bodyTypeOf b)

@@ -1,5 +1,5 @@
-// A record body in a lent slice: checked whole, and read entry by entry and string by string. What
-// the calls answer is what the definitions of the crate body_format say.
+// A record body in a caller-owned slice: checked whole, and read entry by entry and string by
+// string. The answers are those of body_format's definitions (FORMAT 11).
 mod places;
 mod tags;
 
@@ -21,7 +21,7 @@ use wal_types::Refusal;
 ghost use mathlib.Core.Path.{_≡_};
 ghost use Rattle.body_format.specs.Reading.{checkBody, readEntry, readString};
 
-// How many entries a body has, or why it is refused.
+// The number of entries of a body, or the refusal (FORMAT 11.2).
 pub fn check(body: &[u8]) -> CheckAnswer
     ensures { λ r. ⌜ r ≡ checkBody (now (body .entry)) ⌝ }
 {
@@ -34,8 +34,8 @@ pub fn check(body: &[u8]) -> CheckAnswer
     }
 }
 
-// The entry at a place of a body. Place 1 is the first entry's; every later one is that which the
-// entry before it told.
+// The entry at a place of a body (FORMAT 11.3). Place 1 is the first entry's; every later place is
+// the one that the entry before reported.
 pub fn entry_at(body: &[u8], place: Offset) -> EntryAnswer
     ensures { λ r. ⌜ r ≡ readEntry (now (body .entry)) (place .0) ⌝ }
 {
@@ -49,7 +49,7 @@ pub fn entry_at(body: &[u8], place: Offset) -> EntryAnswer
     }
 }
 
-// The string at a place of a body.
+// The string at a place of a body (FORMAT 11.4).
 pub fn string_at(body: &[u8], place: Offset) -> StringAnswer
     ensures { λ r. ⌜ r ≡ readString (now (body .entry)) (place .0) ⌝ }
 {

@@ -1,5 +1,5 @@
 // The five types of a body: rows, and entries that stand alone. Samples and exemplars are one case,
-// rows, so that the code that reads a row has one caller and becomes one piece with it.
+// rows, so that the code that reads a row has one caller and is inlined there.
 use body_format::EXEMPLARS;
 use body_format::METADATA;
 use body_format::SAMPLES;
@@ -17,13 +17,13 @@ pub(crate) enum BodyLayout {
     Plain(PlainType),
 }
 
-// The type that a byte or a body has, or why it is refused.
+// The type that a tag or a body has, or the refusal.
 pub(crate) enum TypeRead {
     Known(BodyLayout),
     Refused(Refusal),
 }
 
-// The type that a byte stands for.
+// The type of a tag.
 pub(crate) fn type_of(byte: u8) -> TypeRead
     ensures { λ r. ⌜ r ≡ typeFound (bodyTypeOf byte) ⌝ }
 {
@@ -37,7 +37,7 @@ pub(crate) fn type_of(byte: u8) -> TypeRead
     }
 }
 
-// The type of a body, which its first byte says.
+// The type of a body, by its tag (FORMAT 11.1).
 pub(crate) fn body_type(body: &[u8]) -> TypeRead
     ensures { λ r. ⌜ r ≡ typeRead (now (body .entry)) ⌝ }
 {

@@ -1,4 +1,4 @@
--- Where rows and entries of rows end: where their fields do, one behind the other.
+-- Where rows and their entries end: where their fields do, one after the other.
 use mathlib.Core.Path.{_≡_, sym, _∙_}
 use mathlib.Core.List.{List}
 use Prim.Native.Nat.{ℕ}

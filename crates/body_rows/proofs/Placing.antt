@@ -1,5 +1,5 @@
--- Which row a place stands for, and which places are bad: in a body that ends before its rows, and
--- in one that does not.
+-- Which row a place means, and which places are bad: in a body that ends before its rows, and in
+-- one that does not.
 use mathlib.Core.Path.{_≡_, refl, sym, ap, _∙_}
 use mathlib.Core.Bool.{Bool, true, false, cond}
 use mathlib.Core.List.{List}
@@ -29,10 +29,10 @@ module _ (s : List ℕ) (h : length s ≡ 1 → ⊥) where
   pub first-2 : 9 ≤ length s → length s < 17 → firstAt true s ≡ fault (Short (offset 9))
   first-2 a b = rw (ne-eqb (length s) 1 h, fixed-got s 1 (omega arith), fixed-short s 9 (omega arith))
 
--- ---- which row a place stands for
+-- ---- which row a place means
 
 module _ (k : BodyType) (s : List ℕ) (p : ℕ) (n : hasRows k ≡ true) where
-  -- among the first id and the first timestamp
+  -- inside the first id and the first timestamp
   among : 2 ≤ p → p ≤ 16 → p ≤ length s → Refused BadPlace ≡ entryKnown (known k) s p
   unfolding badPlace
   among h g l =

@@ -1,4 +1,4 @@
--- What the fields of a row and of an entry of rows come to, fault by fault, in the code's forms.
+-- What the fields of a row and of an entry of rows give, fault by fault, in the code's forms.
 use mathlib.Core.Bool.{Bool, true, false}
 use mathlib.Core.Path.{_≡_, _∙_}
 use mathlib.Core.List.{List}

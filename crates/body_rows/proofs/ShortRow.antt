@@ -1,4 +1,4 @@
--- Rows of ten bytes: how they are told, and what they read as.
+-- Rows of ten bytes: how they are recognized, and what they read as.
 use mathlib.Core.Path.{_≡_, refl, _∙_}
 use mathlib.Core.Bool.{Bool, true, false, _&&_}
 use mathlib.Core.List.{List}

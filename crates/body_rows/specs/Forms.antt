@@ -1,4 +1,4 @@
--- Forms that the private functions hand on: a row by its deltas, its labels, and where it is.
+-- Forms that the private functions return: a row by its deltas, its labels, and where it is.
 -- Assumes nothing.
 use mathlib.Core.Path.{_≡_}
 use mathlib.Core.Bool.{Bool, true, false, cond, _&&_}
@@ -33,15 +33,15 @@ abbrev pub rowGot : SeriesId → Timestamp → ℕ → ℕ → ℕ → ℕ → R
 rowGot id time d e bits next =
     row.Got (seriesId (plus (id .0) d)) (timestamp (fromBits (plus (toBits (time .0)) e))) bits next
 
--- ten bytes, of which the first two are a delta each
+-- ten bytes, of which the first two are one delta each
 unfoldable pub isShortRow : List ℕ → ℕ → Bool
 isShortRow s p = leb 10 (length s - p) && (ltb (getD s p 0) 128 && ltb (getD s (p + 1) 0) 128)
 
--- the labels behind a row; samples have none
+-- the labels after a row; samples have none
 abbrev pub labelsRead : Bool → List ℕ → ℕ → StringListRead
 labelsRead false s p = list.Got 0 p p
 labelsRead true s p = stringListRead (stringListAt s p)
 
--- where the row for place p is: place 1 is the first row's
+-- where the row of place p is: place 1 is the first row's
 abbrev pub rowPlace : ℕ → ℕ
 rowPlace p = cond (eqb p 1) 17 p

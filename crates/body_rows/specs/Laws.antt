@@ -5,7 +5,7 @@ use mathlib.Core.Bool.{Bool, true, false}
 use Rattle.body_format.specs.Entries.{hasRows}
 use Rattle.body_rows.specs.Rows.{rowsType}
 
--- with labels and without, rows are rows
+-- both types of rows have rows
 pub rows-rows : (labelled : Bool) → hasRows (rowsType labelled) ≡ true
 rows-rows false = refl
 rows-rows true = refl

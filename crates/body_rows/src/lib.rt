@@ -1,5 +1,5 @@
-// Types 2 and 4: rows, behind a first id and a first timestamp. Each is read at its place, or only
-// walked over to its end: counting needs no more.
+// Types 2 and 4 (FORMAT 9.3): rows, after a first id and a first timestamp. Each is read at its
+// place, or only walked over to its end: counting needs no more.
 use body_fields::NumberRead;
 use body_fields::Place;
 use body_fields::StringListRead;
@@ -30,7 +30,7 @@ ghost use Rattle.body_fields.specs.Ends.{endOf};
 ghost use Rattle.body_rows.specs.Rows.{rowsType, placeRead};
 ghost use Rattle.body_rows.specs.Forms.{BaseIn, rowRead, rowGot, isShortRow, labelsRead, rowPlace};
 
-// The first place behind the first id and the first timestamp.
+// The place after the first id and the first timestamp.
 const ROWS: usize = 17;
 
 // The bytes of a row whose deltas have one byte each.
@@ -55,7 +55,7 @@ enum RowRead {
 
 // ---- a row
 
-// Bytes 1 to 16; 0 where they are not there.
+// Bytes 1 to 16; a field that is not there is 0.
 fn base_of(body: &[u8]) -> Base
     ensures { λ r. ⌜ BaseIn (now (body .entry)) (r .id) (r .time) ⌝ }
 {
@@ -67,8 +67,8 @@ fn base_of(body: &[u8]) -> Base
     }
 }
 
-// Whether a row at a place has deltas of one byte each. Nearly every row is such, and then needs
-// one test of its length, not three.
+// Whether the row at a place has deltas of one byte each. Nearly every row has, and then needs one
+// test of its length, not three.
 fn is_short_row(body: &[u8], at: usize) -> bool
     ensures { λ r. ⌜ r ≡ isShortRow (now (body .entry)) at ⌝ }
 {
@@ -85,7 +85,7 @@ fn is_short_row(body: &[u8], at: usize) -> bool
 }
 
 // A row by its deltas. The first id and the first time come as two numbers, not as a Base: that
-// would be copied by one wide load right behind two narrow stores, which stalls.
+// would be copied by one wide load right after two narrow stores, which stalls.
 fn row_of(
     first_id: SeriesId,
     first_time: Timestamp,
@@ -129,7 +129,7 @@ fn long_row_at(body: &[u8], first_id: SeriesId, first_time: Timestamp, at: usize
     }
 }
 
-// The end of such a row.
+// The place after such a row.
 fn long_row_end(body: &[u8], at: usize) -> Place
     ensures { λ r. ⌜ r ≡ endOf (rowAt (now (body .entry)) at) ⌝ }
 {
@@ -155,7 +155,7 @@ fn row_at(body: &[u8], first_id: SeriesId, first_time: Timestamp, at: usize) -> 
     long_row_at(body, first_id, first_time, at)
 }
 
-// The end of a row, likewise.
+// The place after a row, short or long.
 fn row_end(body: &[u8], at: usize) -> Place
     ensures { λ r. ⌜ r ≡ endOf (rowAt (now (body .entry)) at) ⌝ }
 {
@@ -168,7 +168,7 @@ fn row_end(body: &[u8], at: usize) -> Place
 
 // ---- a row, and its labels
 
-// The labels behind a row; samples have none.
+// The labels after a row; samples have none.
 fn labels_at(body: &[u8], labelled: bool, at: usize) -> StringListRead
     ensures { λ r. ⌜ r ≡ labelsRead labelled (now (body .entry)) at ⌝ }
 {
@@ -183,7 +183,7 @@ fn labels_at(body: &[u8], labelled: bool, at: usize) -> StringListRead
     }
 }
 
-// The type byte of rows.
+// The tag of a body of rows.
 fn row_type(labelled: bool) -> u8
     ensures { λ r. ⌜ r ≡ typeByte (rowsType labelled) ⌝ }
 {
@@ -238,8 +238,8 @@ pub fn row_entry_end(body: &[u8], labelled: bool, at: usize) -> Place
 
 // ---- a place of a body
 
-// Rows begin behind the first id and the first timestamp, unless there is nothing behind the type
-// byte.
+// Rows begin after the first id and the first timestamp, or at the body's end if nothing follows
+// the tag (FORMAT 11.2).
 pub fn rows_begin(body: &[u8]) -> Place
     ensures { λ r. ⌜ r ≡ placeRead (firstAt true (now (body .entry))) ⌝ }
 {
@@ -255,9 +255,10 @@ pub fn rows_begin(body: &[u8]) -> Place
     Place::At(ROWS)
 }
 
-// A body that ends before its rows: place 1 is its end where nothing stands behind the type byte,
-// and no other place is good; in an empty body none is. It asks for the lengths that `rows_begin`
-// asks for: to take that one's answer apart again was slower (docs/DECISIONS.md, 34).
+// A body that ends before its rows (FORMAT 11.3). Only place 1 is good: it is the plain end if
+// nothing follows the tag, else Short at the first id or the first timestamp. An empty body has no
+// good place. The lengths are tested as in `rows_begin`: to take that one's answer apart was slower
+// (docs/DECISIONS.md, 34).
 fn no_row(body: &[u8], at: usize) -> EntryAnswer
     requires { ⌜ length (now body) < 17 ⌝ }
     ensures { λ r. ⌜ ((labelled : Bool) → r ≡ entryKnown (known (rowsType labelled)) (now (body .entry)) at) ⌝ }
@@ -277,7 +278,7 @@ fn no_row(body: &[u8], at: usize) -> EntryAnswer
     EntryAnswer::Refused(Refusal::Short(Offset(9)))
 }
 
-// Where the row for a place is: place 1 is the first row's.
+// Where the row of a place is: place 1 is the first row's.
 fn row_place(at: usize) -> usize
     ensures { λ r. ⌜ r ≡ rowPlace at ⌝ }
 {
@@ -285,7 +286,7 @@ fn row_place(at: usize) -> usize
 }
 
 // The row at a place of a body, with its labels, or the plain end at the body's end. Once there are
-// 17 bytes, nothing asks again whether the first id and the first timestamp are there.
+// 17 bytes, nothing tests again whether the first id and the first timestamp are there.
 pub fn row_entry(body: &[u8], labelled: bool, at: usize) -> EntryAnswer
     ensures { λ r. ⌜ r ≡ entryKnown (known (rowsType labelled)) (now (body .entry)) at ⌝ }
 {

@@ -1,5 +1,5 @@
--- Document 01, end of "Bodies": what filling a lent list of samples from a body answers, and the list afterwards. For bodies the order of
--- refusals is EmptyBody, UnknownType, WrongKind, the first fault from the left, then ListFull.
+-- FORMAT 11.5: what filling a list of samples from a body answers, and the list afterwards. Order
+-- of refusals: EmptyBody, UnknownType, WrongKind, the first fault from the left, ListFull.
 -- To be believed. Assumes nothing.
 use mathlib.Core.Bool.{cond}
 use mathlib.Core.List.{List, [], _∷_, _++_, map}
@@ -15,11 +15,11 @@ use Rattle.body_samples.specs.declared.Sample.{Sample}
 use Rattle.body_samples.specs.declared.FillAnswer.{FillAnswer}
 use Rattle.body_samples.specs.declared.FillAnswer.the-variants.{Filled, Refused}
 
--- an entry's id, time and value, as reading the entry tells them
+-- an entry's id, time and value, as reading the entry reports them
 abbrev pub sampleOf : Entry → Sample
 sampleOf e = record { id = view e 0 0 .id; time = view e 0 0 .time; bits = view e 0 0 .bits }
 
--- the entries of the samples body s, or why it is refused
+-- the entries of the samples body s, or the refusal
 abbrev pub samplesKnown : Known → List ℕ → Field (List Entry)
 samplesKnown (known samples) s = entries samples s
 samplesKnown (known series) s = fault WrongKind
@@ -37,7 +37,8 @@ abbrev pub fillAnswer : Field (List Entry) → ℕ → FillAnswer
 fillAnswer (got es p) room = cond (leb (length es) room) (Filled (length es)) (Refused ListFull)
 fillAnswer (fault why) room = Refused why
 
--- document 01's number for an answer, 0 where the list is filled; and its value, how many samples are filled, or the refusal's place
+-- the status number of an answer (FORMAT 12.1), 0 where the list is filled; and its value, the
+-- number of samples filled or the refusal's place
 abbrev pub fillNumber : FillAnswer → ℕ
 fillNumber (Filled n) = 0
 fillNumber (Refused why) = numberOf why

@@ -43,7 +43,7 @@ unfoldable pub fillWith : ℕ → ℕ → List ℕ → ℕ → List Sample → L
 fillWith zero p s i l = l
 fillWith (suc n) p s i l = fillWith n (rowAt s p .next) s (suc i) (set l i (rowAt s p .sample))
 
--- how many rows are filled
+-- the number of rows filled
 abbrev pub fillCount : Field (List Entry) → ℕ → ℕ
 fillCount (got es p) room = cond (leb (length es) room) (length es) 0
 fillCount (fault why) room = 0
@@ -75,7 +75,7 @@ walk-fills s {p} (next {q = q} {e = e} {es = es} first h _ w) i l =
     ap (λ (r : Row). fillWith (length es) (r .next) s (suc i) (set l i (r .sample))) (row-found s p e first q h) ∙ walk-fills s w (suc i) (set l i (sampleOf e))
 walk-fills s (done h) i l = refl
 
--- stored from the front on, they stand before the rest
+-- stored from the front on, they come before the rest
 front : (es : List Entry) (l : List Sample) → length es ≤ length l → sets l 0 (map sampleOf es) ≡ map sampleOf es ++ drop (length es) l
 front es l h =
     let n : 0 + length (map sampleOf es) ≡ length es = omega (arith, length-map es sampleOf) in

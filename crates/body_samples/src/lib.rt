@@ -1,5 +1,5 @@
-// Fills a lent list of samples from a samples body. The whole body is judged first; then its rows are read one after the other, each straight
-// into its place in the list.
+// Fills a caller's list of samples from a samples body (FORMAT 11.5). The whole body is checked
+// first; then its rows are decoded one after the other, each straight into its place in the list.
 use body_format::CheckAnswer;
 use body_format::EXEMPLARS;
 use body_format::EntryAnswer;
@@ -25,13 +25,13 @@ pub struct Sample {
     pub bits: u64,
 }
 
-// What filling a list answers: how many samples now stand at its front, or why it is refused.
+// What filling a list answers: the number of samples now at its front, or the refusal.
 pub enum FillAnswer {
     Filled(usize),
     Refused(Refusal),
 }
 
-// An answer, and how many rows are to be filled: none where it refuses.
+// An answer, and the number of rows to be filled: none if it is a refusal.
 struct Plan {
     answer: FillAnswer,
     count: usize,
@@ -43,7 +43,8 @@ struct Row {
     next: usize,
 }
 
-// Fills the front of the list with the samples of a body, in order; the rest is unchanged. A refusal changes nothing.
+// Fills the front of the list with the samples of a body, in order; the rest is unchanged. A
+// refusal changes nothing.
 pub fn fill(body: &[u8], list: &mut [Sample]) -> FillAnswer
     ensures { λ r. ⌜
         (r ≡ fillAnswer (samplesIn (now (body .entry))) (length (now (list .entry))))
@@ -54,7 +55,7 @@ pub fn fill(body: &[u8], list: &mut [Sample]) -> FillAnswer
     plan.answer
 }
 
-// Document 01's number for an answer; 0 where the list is filled.
+// The status number of an answer (FORMAT 12.1); 0 where the list is filled.
 pub fn fill_number(answer: FillAnswer) -> u32
     ensures { λ r. ⌜ r ≡ fillNumber answer ⌝ }
 {
@@ -64,7 +65,7 @@ pub fn fill_number(answer: FillAnswer) -> u32
     }
 }
 
-// The value of an answer: how many samples are filled, or the refusal's place.
+// The value of an answer: the number of samples filled, or the refusal's place.
 pub fn fill_value(answer: FillAnswer) -> usize
     ensures { λ r. ⌜ r ≡ fillValue answer ⌝ }
 {
@@ -77,7 +78,7 @@ pub fn fill_value(answer: FillAnswer) -> usize
     }
 }
 
-// How many samples a body holds, or why it is refused.
+// The number of samples that a body holds, or the refusal.
 fn count_samples(body: &[u8]) -> CheckAnswer
     ensures { λ r. ⌜ r ≡ checkFields (samplesIn (now (body .entry))) ⌝ }
 {
@@ -95,7 +96,7 @@ fn count_samples(body: &[u8]) -> CheckAnswer
     }
 }
 
-// What is answered, and how many rows are to be filled, for a list of `room` samples.
+// The answer, and the number of rows to be filled, for a list of `room` samples.
 fn plan_fill(body: &[u8], room: usize) -> Plan
     ensures { λ r. ⌜
         (r .answer ≡ fillAnswer (samplesIn (now (body .entry))) room)
@@ -145,7 +146,8 @@ fn row_at(body: &[u8], place: usize) -> Row
     row_of(answer, place)
 }
 
-// The row of an entry that was read at `place`. Where there was none, the sample is all zeros and the place stays.
+// The row of an entry that was read at `place`. If there was none, the sample is all zeros and the
+// place stays.
 fn row_of(answer: EntryAnswer, place: usize) -> Row
     ensures { λ r. ⌜ r ≡ rowOf answer place ⌝ }
 {
@@ -165,7 +167,7 @@ fn row_of(answer: EntryAnswer, place: usize) -> Row
     }
 }
 
-// No row: zeros, and the same place. `fill` never comes to it, since the body was judged whole before.
+// No row: zeros, and the same place. `fill` never gets here: the whole body was checked before.
 fn no_row(place: usize) -> Row
     ensures { λ r. ⌜ r ≡ noRow place ⌝ }
 {

@@ -1,6 +1,6 @@
-// The calls with C names that build and read record bodies. Numbers and slices of numbers pass; a slice passes as a pointer and a length, a fixed array
-// as a pointer, a body's state as its type and the bytes used. include/depot_wal.h says the same for C. Nothing in the crates calls these: they are the
-// way in from outside. tools/archive joins them with those of depot_wal_segments.
+// The C calls that build and read record bodies; include/depot_wal.h describes them for C. A slice
+// passes as a pointer and a length, a fixed array as a pointer, a body's state as its tag and the
+// bytes used. No crate calls these; tools/archive joins them with those of depot_wal_segments.
 ghost use mathlib.Core.Path.{_≡_};
 ghost use Rattle.body_format.specs.Reading.{checkBody, readEntry, readString};
 ghost use Rattle.body_format.specs.Calls.{starter, builder, addSeries, addSample, addTombstone, addExemplar, addMetadata};
@@ -15,7 +15,7 @@ use wal_types::Offset;
 use wal_types::SeriesId;
 use wal_types::Timestamp;
 
-// Starts a body of a type.
+// Starts a body of the type `tag`.
 #[no_mangle]
 pub extern "C" fn depot_wal_body_start(buffer: &mut [u8], tag: u8, out: &mut [u64; 2]) -> u32
     ensures { λ r. ⌜
@@ -132,7 +132,7 @@ pub extern "C" fn depot_wal_add_exemplar(
     build_result(answer, used, out)
 }
 
-// Adds the metadata of a series: its metric type, and names and texts.
+// Adds the metadata of a series: its metric type, and its name and text strings.
 #[no_mangle]
 pub extern "C" fn depot_wal_add_metadata(
     buffer: &mut [u8],
@@ -157,7 +157,7 @@ pub extern "C" fn depot_wal_add_metadata(
     build_result(answer, used, out)
 }
 
-// Checks a body: how many entries it has, or its first fault.
+// Checks a body: its number of entries, or the refusal.
 #[no_mangle]
 pub extern "C" fn depot_wal_body_check(bytes: &[u8], out: &mut [u64; 1]) -> u32
     ensures { λ r. ⌜ (r ≡ checkCode (checkBody (now (bytes .entry)))) × (now (out .exit) ≡ checkOut (checkBody (now (bytes .entry)))) ⌝ }
@@ -175,7 +175,7 @@ pub extern "C" fn depot_wal_entry_at(bytes: &[u8], place: usize, out: &mut [u64;
     entry_result(answer, out)
 }
 
-// Reads the string at a place: where its bytes start, and how many they are.
+// Reads the string at a place: where its bytes start, and their number.
 #[no_mangle]
 pub extern "C" fn depot_wal_string_at(bytes: &[u8], place: usize, out: &mut [u64; 2]) -> u32
     ensures { λ r. ⌜ (r ≡ stringCode (readString (now (bytes .entry)) place)) × (now (out .exit) ≡ stringOut (readString (now (bytes .entry)) place)) ⌝ }

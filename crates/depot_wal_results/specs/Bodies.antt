@@ -1,4 +1,5 @@
--- How the answers of building and reading a body pass to C: what the call returns, and what it leaves in `out`.
+-- The answers of building and reading a body as C gets them: what the call returns, and what it
+-- leaves in `out`.
 -- To be believed. Assumes nothing.
 use mathlib.Core.List.{List, [], _∷_}
 use Prim.Native.Nat.{ℕ}
@@ -13,7 +14,7 @@ use Rattle.body_format.specs.declared.EntryAnswer.the-variants.{Found as EntryF
 use Rattle.body_format.specs.declared.StringAnswer.{StringAnswer}
 use Rattle.body_format.specs.declared.StringAnswer.the-variants.{Found as StringFound, Refused as StringRefused}
 
--- starting and adding: 0, else document 01's number
+-- starting and adding: 0, else the status number (FORMAT 12.1)
 abbrev pub addedCode : Added → ℕ
 addedCode (Next state) = 0
 addedCode (Refused why) = numberOf why
@@ -32,8 +33,9 @@ abbrev pub checkOut : CheckAnswer → List ℕ
 checkOut (Entries n) = n ∷ []
 checkOut (CheckRefused why) = placeOf why .0 ∷ []
 
--- an entry: type, id, time or min, max, value bits or metric type, string count, where the strings begin, place after; times in two's complement. At the
--- plain end zeros; of a refusal its place and then zeros.
+-- an entry: tag, id, time or min, max, value bits or metric type, string count, where the strings
+-- begin, place after; times in two's complement. The plain end: zeros. A refusal: its place, then
+-- zeros.
 abbrev pub entryCode : EntryAnswer → ℕ
 entryCode (EntryFound e) = 0
 entryCode End = 200

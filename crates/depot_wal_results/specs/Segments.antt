@@ -1,4 +1,4 @@
--- How a read's and a write's answer pass to C: what the call returns, and what it leaves in `out`.
+-- A read's and a write's answer as C gets them: what the call returns, and what it leaves in `out`.
 -- To be believed. Assumes nothing.
 use mathlib.Core.List.{List, [], _∷_}
 use Prim.Native.Nat.{ℕ}
@@ -8,24 +8,26 @@ use Rattle.segment_format.specs.declared.ReadAnswer.the-variants.{Record, End, 
 use Rattle.segment_format.specs.declared.WriteAnswer.{WriteAnswer}
 use Rattle.segment_format.specs.declared.WriteAnswer.the-variants.{Next, Refused as WriteRefused}
 
--- 0 for a record, 200 for a clean end, else document 01's number
+-- 0 for a record, 200 for a clean end, else the status number (FORMAT 12.1)
 abbrev pub readCode : ReadAnswer → ℕ
 readCode (Record start n next) = 0
 readCode End = 200
 readCode (Refused why) = numberOf why
 
--- a record's start, length and place after it; at an end zeros; of a refusal its place and then zeros
+-- a record: its start, length and the place after it; an end: zeros; a refusal: its place, then
+-- zeros
 abbrev pub readOut : ReadAnswer → List ℕ
 readOut (Record start n next) = start .0 ∷ n ∷ next .0 ∷ []
 readOut End = 0 ∷ 0 ∷ 0 ∷ []
 readOut (Refused why) = placeOf why .0 ∷ 0 ∷ 0 ∷ []
 
--- 0 for a write that was done, else document 01's number
+-- 0 for a write that was done, else the status number (FORMAT 12.1)
 abbrev pub writeCode : WriteAnswer → ℕ
 writeCode (Next q) = 0
 writeCode (WriteRefused why) = numberOf why
 
--- the place for the next write, after a refusal the place p that was given; then the refusal's place, else 0
+-- the place for the next write, after a refusal the place p that was given; then the refusal's
+-- place, else 0
 abbrev pub writeOut : ℕ → WriteAnswer → List ℕ
 writeOut p (Next q) = q .0 ∷ 0 ∷ []
 writeOut p (WriteRefused why) = p ∷ placeOf why .0 ∷ []

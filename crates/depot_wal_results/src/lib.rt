@@ -1,4 +1,5 @@
-// The answers of the calls as numbers, for C: each function puts an answer's values into `out`, and hands back what the call returns.
+// The answers of the calls as numbers, for C: each function stores an answer's values in `out`, and
+// returns what the call returns.
 use body_builder::Added;
 use body_format::CheckAnswer;
 use body_format::EntryAnswer;
@@ -53,7 +54,8 @@ pub fn write_result(answer: WriteAnswer, place: usize, out: &mut [u64; 2]) -> u3
     }
 }
 
-// What starting a body or adding an entry answered; `given` are the bytes used that the call was given.
+// What starting a body or adding an entry answered; `given` is the number of bytes used that the
+// call was given.
 pub fn build_result(answer: Added, given: usize, out: &mut [u64; 2]) -> u32
     ensures { λ r. ⌜ (r ≡ addedCode answer) × (now (out .exit) ≡ addedOut given answer) ⌝ }
 {

@@ -1,5 +1,6 @@
-// Fills a list of four samples from sixteen bodies and prints what was answered and the whole list afterwards. Before each, all four samples are nines:
-// so they must stand again after a refusal, and behind the samples of a body that has fewer than four.
+// Fills a list of four samples from sixteen bodies and prints each answer and the whole list
+// afterwards. Before each, all four samples are nines: these must be left after a refusal, and
+// after the samples of a body that has fewer than four.
 //
 // For each body it prints one of
 //     fill LENGTH -> filled COUNT
@@ -19,7 +20,8 @@ fn main() {
     long_and_cut();
 }
 
-// No byte; an unknown type; a series body; a samples body of no entry; one that ends before its first time.
+// No byte; an unknown type; a series body; a samples body without an entry; one that ends before
+// its first time.
 fn kinds() {
     show(b"");
     show(b"\x05");
@@ -28,7 +30,8 @@ fn kinds() {
     show(b"\x02\0\0\0\0\0\0\0\0");
 }
 
-// Document 01's switch at time 1000, id 7 to 0, id 8 to 1.0: without its rows, whole, and without its last byte.
+// The switch of FORMAT 13, at time 1000 id 7 to 0 and id 8 to 1.0: without its rows, whole, and
+// without its last byte.
 fn switches() {
     show(b"\x02\0\0\0\0\0\0\0\x07\0\0\0\0\0\0\x03\xE8");
     show(
@@ -43,7 +46,7 @@ fn switches() {
     );
 }
 
-// An id delta of ten bytes that goes on, and a row whose id and time go back by one from the first.
+// An id delta whose tenth byte is above 1, and a row whose id and time are one less than the first.
 fn deltas() {
     show(
         b"\x02\0\0\0\0\0\0\0\x07\0\0\0\0\0\0\x03\xE8\
@@ -77,14 +80,16 @@ fn rows() {
     );
 }
 
-// Bodies of the other types, the first and the last of which end inside a field: the type is looked at first.
+// Bodies of the other types, the first and the last of which end inside a field: the type is tested
+// before the fields.
 fn others() {
     show(b"\x03\x01");
     show(b"\x04");
     show(b"\x06\x80");
 }
 
-// Five rows, and a sixth that ends behind its id: the fault is found before the list is found too short.
+// Five rows, and a sixth that ends after its id delta: the fault is reported, not that the list is
+// too short.
 fn long_and_cut() {
     show(
         b"\x02\0\0\0\0\0\0\0\x07\0\0\0\0\0\0\x03\xE8\

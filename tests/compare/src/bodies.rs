@@ -1,4 +1,5 @@
-//! Building and reading of bodies against the second program: answer, `out`, every lent byte.
+//! Building and reading of bodies against the second program: answer, `out`, every caller-owned
+//! byte.
 
 mod long_lists;
 
@@ -35,7 +36,7 @@ const KINDS: [u8; 5] = [
 
 /// The longest buffer.
 const ROOM: usize = 70_000;
-/// The longest text of one addition, long lists aside.
+/// The most string bytes of one addition, long lists aside.
 const TEXT: usize = 2_000;
 /// Places and bytes used that nothing has.
 const FAR: [usize; 6] = [
@@ -47,7 +48,7 @@ const FAR: [usize; 6] = [
     (1 << 32) + 1,
 ];
 
-/// The lent bytes, used again from case to case.
+/// The caller-owned bytes, used again from case to case.
 struct Bench {
     body: Twin,
     /// Noise to take the strings from, and how it was.
@@ -83,7 +84,7 @@ impl Bench {
         self.compare(length, got, wanted, what)
     }
 
-    /// Adds an entry; its strings are lent from the middle of the text.
+    /// Adds an entry; its strings are taken from the middle of the text.
     fn add(
         &mut self,
         length: usize,
@@ -225,13 +226,13 @@ fn entry_answer(read: Result<Option<Entry>, Refusal>) -> Answer<8> {
 
 // ---- Building ----
 
-/// What an addition is made of, whichever kind it is.
+/// What an addition is made of, whatever its type.
 struct Facts {
     id: u64,
     time: i64,
     max: i64,
     bits: u64,
-    /// Bytes of text.
+    /// The number of string bytes.
     text: usize,
     lengths: Vec<u64>,
 }
@@ -268,14 +269,14 @@ impl Facts {
         }
     }
 
-    /// The lengths with two words before and after them, which are not lent.
+    /// The lengths with two words before and after them, which are not passed.
     fn guarded_lengths(&self) -> Vec<u64> {
         [&[!0, 7], &self.lengths[..], &[9, !0]].concat()
     }
 }
 
 impl fmt::Display for Facts {
-    /// Of a long list the first lengths are told.
+    /// Of a long list only the first lengths are printed.
     fn fmt(&self, f: &mut fmt::Formatter) -> fmt::Result {
         let Facts { id, time, max, .. } = self;
         let (bits, text, count) = (self.bits, self.text, self.lengths.len());
@@ -345,7 +346,7 @@ fn any_kind(rng: &mut Rng) -> u8 {
     }
 }
 
-/// Additions to states that were never handed out, over bytes of any kind.
+/// Additions to states that were never handed out, over any bytes.
 fn compare_additions(rng: &mut Rng) -> Outcome {
     let mut bench = Bench::new(rng);
     for case in 0..200_000 {
@@ -427,7 +428,7 @@ fn compare_lists(rng: &mut Rng) -> Outcome {
     Ok(bench.cases)
 }
 
-/// Builds a body, some additions of another kind among those of its own, and hands back the bytes
+/// Builds a body, some additions of another type among those of its own, and hands back the bytes
 /// used.
 fn build_list(rng: &mut Rng, bench: &mut Bench) -> Result<usize, String> {
     let kind = rng.pick(&KINDS);
@@ -636,8 +637,8 @@ fn read_record(rng: &mut Rng, bench: &mut Bench, length: usize) -> Result<(), St
     Ok(())
 }
 
-/// Bodies longer than a record, of one entry with many strings or of many short entries; "of any
-/// length".
+/// Bodies longer than a record, of one entry with many strings or of many short entries: a body of
+/// any length is checked (FORMAT 11.2).
 fn compare_long(rng: &mut Rng) -> Outcome {
     let mut bench = Bench::new(rng);
     for kind in [body::SERIES, body::METADATA, body::EXEMPLARS] {

@@ -1,6 +1,6 @@
 //! The archive's C calls, and safe wrappers around them. A slice passes as pointer and length;
-//! every second empty slice is lent as a null pointer. `out` stands between guard words and is
-//! filled with a pattern before each call.
+//! every second empty slice passes as a null pointer. `out` is between guard words and is filled
+//! with a pattern before each call.
 
 pub mod bare;
 mod bodies;
@@ -18,7 +18,7 @@ pub const END: u32 = 200;
 
 const PATTERN: u64 = 0xA5A5_5A5A_C3C3_3C3C;
 
-/// What a call returned and left in `out`; `beside` tells that it wrote beside `out`.
+/// What a call returned and left in `out`; `beside` says whether it wrote beside `out`.
 #[derive(Clone, Copy, Debug, PartialEq, Eq)]
 pub struct Answer<const N: usize> {
     pub number: u32,

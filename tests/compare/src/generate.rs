@@ -83,8 +83,8 @@ pub enum Splitting {
     Long,
 }
 
-/// Fragments put down one by one from some place on, as no writer of ours splits them; now and
-/// then with a wrong kind, a wrong sum or a filler that is not zero.
+/// Fragments written one by one from some place on, as no writer of ours splits them; now and then
+/// with a wrong kind, a wrong sum or a filler that is not zero.
 pub fn foreign(rng: &mut Rng, splitting: Splitting) -> Sample {
     let start = foreign_start(rng);
     let mut maker = Maker {

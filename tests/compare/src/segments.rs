@@ -32,14 +32,14 @@ pub fn groups() -> Vec<Group> {
 /// Pages of the longest slice, the limit's cases aside.
 const PAGES: usize = generate::PAGES_MAX;
 
-/// The lent bytes, used again from case to case.
+/// The caller-owned bytes, used again from case to case.
 struct Bench {
     segment: Twin,
     buffer: Twin,
     /// Noise to take the records from.
     records: Twin,
     table: Box<Table>,
-    /// Decides between the plain call and the one with a lent table.
+    /// Decides between the plain call and the one with a caller's table.
     coin: Rng,
     cases: u64,
 }
@@ -76,7 +76,7 @@ impl Bench {
         }
     }
 
-    /// Reads the first `length` bytes of the segment at a place, with a lent table or without.
+    /// Reads the first `length` bytes of the segment at a place, with a caller's table or without.
     fn read(&mut self, length: usize, place: usize) -> Result<Answer<3>, String> {
         self.read_into(length, place, RECORD_MAX)
     }
@@ -120,8 +120,8 @@ impl Bench {
         Ok(wanted)
     }
 
-    /// The answer, then every lent byte and the guards around them. Of segments at the limit the
-    /// bytes are compared at the group's end.
+    /// The answer, then every caller-owned byte and the guards around them. Of segments at the
+    /// limit the bytes are compared at the group's end.
     fn compare<const N: usize>(
         &self,
         (length, place): (usize, usize),

@@ -1,5 +1,6 @@
-//! Lent bytes, twice: the archive gets a range of one allocation, the second program the same range
-//! of its twin. Afterwards both allocations have to be equal, with the guard bytes around them.
+//! Caller-owned bytes, twice: the archive gets a range of one allocation, the second program the
+//! same range of its twin. Afterwards both allocations have to be equal, with the guard bytes
+//! around them.
 
 use crate::rng::Rng;
 use std::ops::Range;

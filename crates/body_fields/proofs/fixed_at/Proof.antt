@@ -1,4 +1,4 @@
--- `fixed_at` meets its contract: eight bytes, where they are there.
+-- `fixed_at` meets its contract: eight bytes, if they are there.
 use borrow.Author.Needs.{needs}
 use native.Mathlib.Omega.{arith}
 use Prim.Native.Nat.{ℕ, _+_}

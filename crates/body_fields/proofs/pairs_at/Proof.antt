@@ -1,4 +1,5 @@
--- `pairs_at` meets its contract. The loop's invariant: the pairs that are left, behind the strings so far, make the whole list.
+-- `pairs_at` meets its contract. The loop's invariant: the strings so far and the pairs that are
+-- left make the whole list.
 use borrow.Author.Needs.{needs}
 use native.Mathlib.Omega.{arith}
 use mathlib.Core.Path.{_≡_, refl, subst}

@@ -1,4 +1,4 @@
--- `string_field_at` meets its contract: the length, and then its bytes, which are there or not.
+-- `string_field_at` meets its contract: the length, and then its bytes, which are all there or not.
 use borrow.Author.Needs.{needs}
 use mathlib.Core.Path.{sym, ap}
 use Rattle.body_format.specs.Laws.Fields.{string-short, string-fault}

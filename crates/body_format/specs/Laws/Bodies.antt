@@ -1,4 +1,5 @@
--- Laws of bodies that grow: a body of which the entries are es, and behind it the bytes of an entry, has the entries es and that one.
+-- Laws of bodies that grow: where a body with the entries es is followed by the bytes of an entry,
+-- the two are a body with es and that entry.
 -- Assumes nothing.
 use mathlib.Core.Path.{_≡_, refl, sym, ap, _∙_}
 use mathlib.Core.Bool.{Bool, true, false}
@@ -23,7 +24,8 @@ use Rattle.body_format.specs.Laws.Lists.{entries-end, entries-enough, en
 use Rattle.body_format.specs.Laws.Strings.{row-first, row-later, length-row-later, length-series, length-sample, length-tombstone, length-exemplar, length-metadata}
 use Rattle.body_format.specs.Laws.Entries.{Fits, Firsts, read-entry}
 
--- s is a body of type k with the entries es. Behind the type byte of a body of rows stand a first id and a first timestamp of 64 bits.
+-- s is a body of type k with the entries es. In a body of rows, any bytes after the tag begin with
+-- a first id and a first timestamp of 64 bits.
 pub record Body (k : BodyType) (s : List ℕ) (es : List Entry) : Type 0 where
   pub begins : Stands s 0 (typeByte k ∷ [])
   pub reads : entries k s ≡ got es (length s)
@@ -43,18 +45,19 @@ readable k s es p st bytes e =
     fits : (n : ℕ) → readBe8 (drop n s) < 2 ^ 64
     fits n = read-be8-fits (drop n s) (λ i. rw getD-drop (bytes (n + i)))
 
--- it has its type byte
+-- it has its tag
 some-byte : (k : BodyType) (s : List ℕ) (es : List Entry) → Body k s es → 1 ≤ length s
 some-byte k s es y = omega (arith, ap length (y .begins .1))
 
--- what follows a body does not change where its entries begin
+-- bytes after a body do not change where its entries begin, once a body of rows has its first id
+-- and first timestamp
 first-place : (rows : Bool) (s x : List ℕ) → 1 ≤ length s → (rows ≡ true → 17 ≤ length s)
     → (first : ℕ) × (first ≤ length s) × (firstAt rows s ≡ got first first) × (firstAt rows (s ++ x) ≡ got first first)
 first-place false s x h r = (1, h, refl, refl)
 first-place true s x h r = (17, r refl, first-rows s (r refl), first-rows (s ++ x) (omega (arith, length-append s x, r refl)))
 
 module _ (k : BodyType) (s : List ℕ) (es : List Entry) (x : List ℕ) (d : Placed) where
-  -- an entry behind a body, whose first id and first timestamp, if it has rows, are there
+  -- an entry after a body; if it has rows, its first id and first timestamp are there
   grown : Body k s es → (hasRows k ≡ true → 17 ≤ length s) → 0 < length x → entryAt k (s ++ x) (length s) ≡ got d (length (s ++ x))
       → Body k (s ++ x) (es ++ (d .entry ∷ []))
   unfolding entries
@@ -85,7 +88,7 @@ some-bytes b u (tombstoneEntry id min max) h = omega (arith, length-tombstone b 
 some-bytes b u (exemplarEntry id time v ts) h = omega (arith, length-exemplar b u id time v ts, length-row-later b u id (toBits time) v (h refl))
 some-bytes b u (metadataEntry id metric ts) h = omega (arith, length-metadata b u id metric ts)
 
--- the bytes of an entry behind a body, where it is no first row
+-- the bytes of an entry after a body, where it is not a first row
 later : (b : List ℕ) (u : ℕ) (s : List ℕ) (es : List Entry) (e : Entry) → Body (bodyTypeFor e) s es
     → (hasRows (bodyTypeFor e) ≡ true → (17 ≤ length s) × Firsts b u s) → Fits e → length (entryBytes b u e) < 2 ^ 64
     → Body (bodyTypeFor e) (s ++ entryBytes b u e) (es ++ (e ∷ []))
@@ -105,16 +108,16 @@ later b u s es e y rows fits h =
 
 -- ---- the first row
 
--- what stands as eight bytes
+-- the number whose eight bytes are at a place
 number-at : (s : List ℕ) (p n x : ℕ) → p ≡ n → x < 2 ^ 64 → Stands s p (be8 x) → readBe8 (drop n s) ≡ x
 number-at s p n x e h st = rw (← e) (ap readBe8 (st .1) ∙ read-be8 x (st .0) h)
 
 module _ (s : List ℕ) (one : length s ≡ 1) (id time : ℕ) (hi : id < 2 ^ 64) (ht : time < 2 ^ 64) where
-  -- behind a type byte the first id and the first timestamp
+  -- a tag, and after it the first id and the first timestamp
   abbrev headed : List ℕ
   headed = s ++ (be8 id ++ be8 time)
 
-  -- 17 bytes
+  -- it has 17 bytes
   length-headed : length headed ≡ 17
   length-headed = omega (arith, length-append s (be8 id ++ be8 time), length-append (be8 id) (be8 time), length-be8 id, length-be8 time)
 
@@ -128,7 +131,7 @@ module _ (s : List ℕ) (one : length s ≡ 1) (id time : ℕ) (hi : id < 2 ^ 64
       number-at headed (length s + length (be8 id)) 9 time (omega (arith, length-be8 id)) ht
       (stands-right headed (length s) (be8 id) (be8 time) (stands-end s (be8 id ++ be8 time)))
 
-  -- a body of them alone has no entries, as the type byte alone has none
+  -- a body of these alone has no entries, as the tag alone has none
   headed-body : (k : BodyType) (es : List Entry) → hasRows k ≡ true → Body k s es → Body k headed es
   unfolding entries
   headed-body k es q y =
@@ -140,7 +143,7 @@ module _ (s : List ℕ) (one : length s ≡ 1) (id time : ℕ) (hi : id < 2 ^ 64
         firsts = λ r ne. (omega (arith, length-headed), rw first-id hi, rw first-time ht);
       }
 
-  -- a row behind them is a later one
+  -- a row after them is a later one
   headed-firsts : Firsts headed 17 headed
   headed-firsts = record {
     later = λ z. omega arith;
@@ -150,7 +153,7 @@ module _ (s : List ℕ) (one : length s ≡ 1) (id time : ℕ) (hi : id < 2 ^ 64
     time-fits = rw first-time ht;
   }
 
-  -- the first row is them and a later row
+  -- the first row is the first id, the first timestamp, and a later row
   row-headed : (b : List ℕ) (v : ℕ) → rowBytes b 1 id time v ≡ (be8 id ++ be8 time) ++ rowBytes headed 17 id time v
   unfolding minus
   row-headed b v =
@@ -160,7 +163,7 @@ module _ (s : List ℕ) (one : length s ≡ 1) (id time : ℕ) (hi : id < 2 ^ 64
       ∙ rw (row-later headed 17 id time v (λ z. omega arith), zi, zt)
       (sym (append-assoc (be8 id) (be8 time) _))
 
-  -- so an entry that is them and a later one is one entry more
+  -- so an entry that is these and a later one adds one entry
   headed-added : (b : List ℕ) (es : List Entry) (e : Entry) → hasRows (bodyTypeFor e) ≡ true → Body (bodyTypeFor e) s es → Fits e
       → entryBytes b 1 e ≡ (be8 id ++ be8 time) ++ entryBytes headed 17 e → length (entryBytes b 1 e) < 2 ^ 64
       → Body (bodyTypeFor e) (s ++ entryBytes b 1 e) (es ++ (e ∷ []))
@@ -187,7 +190,7 @@ first-added b s es (metadataEntry id metric ts) q one y fits h = let z : _≡_ {
 
 -- ---- any entry
 
--- behind the u bytes used of a buffer
+-- after the u bytes used of a buffer
 pub body-added : (b : List ℕ) (u : ℕ) (es : List Entry) (e : Entry) → u ≤ length b → Body (bodyTypeFor e) (take u b) es → Fits e
     → length (entryBytes b u e) < 2 ^ 64 → Body (bodyTypeFor e) (take u b ++ entryBytes b u e) (es ++ (e ∷ []))
 body-added b u es e l y fits h = go (hasRows (bodyTypeFor e)) (eqb u 1) refl refl

@@ -1,4 +1,5 @@
--- Laws of places: a reading that succeeds goes forward by the bytes that its field has at least, and ends within the body.
+-- Laws of places: a reading that succeeds goes forward by at least the fewest bytes that its field
+-- can have, and ends within the body.
 -- Assumes nothing.
 use mathlib.Core.Path.{_≡_, refl, subst}
 use mathlib.Core.Bool.{Bool, true, false, cond}

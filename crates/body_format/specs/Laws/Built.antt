@@ -1,4 +1,5 @@
--- Laws of lists of additions: whatever is added to a started body, refused or not, it reads back as the entries that were put in.
+-- Laws of lists of additions: whatever is added to a started body, refused or not, the body reads
+-- back as the entries that were put in.
 -- Assumes nothing.
 use mathlib.Core.Path.{_≡_, refl, sym, ap, _∙_}
 use mathlib.Core.Bool.{false}
@@ -23,7 +24,7 @@ use Rattle.body_format.specs.Laws.Walks.{entries-walk}
 
 -- ---- what is known of a body
 
--- it is checked with as many entries as it has
+-- the check counts as many entries as the body has
 pub body-checks : (k : BodyType) (s : List ℕ) (es : List Entry) → Body k s es → checkBody s ≡ Entries (length es)
 unfolding checkBody
 body-checks k [] es y = absurd (omega (arith, ap length (y .begins .1)))
@@ -31,7 +32,7 @@ body-checks k (c ∷ s) es y =
     let type : c ≡ typeByte k = let e = y .begins .1 in cc in
     rw (ap bodyTypeOf type ∙ type-known k, y .reads)
 
--- and walked with them
+-- and a walk gives them
 pub body-walks : (k : BodyType) (s : List ℕ) (es : List Entry) → Body k s es → Walks readEntry readString s 1 es
 body-walks k [] es y = absurd (omega (arith, ap length (y .begins .1)))
 body-walks k (c ∷ s) es y =
@@ -40,7 +41,7 @@ body-walks k (c ∷ s) es y =
 
 -- ---- a started body
 
--- the type byte alone has no entries
+-- the tag alone has no entries
 type-alone : (k : BodyType) → Body k (typeByte k ∷ []) []
 unfolding entries
 type-alone k = record {
@@ -49,7 +50,7 @@ type-alone k = record {
   firsts = λ q ne. absurd (ne refl);
 }
 
--- it has its type byte and no entries
+-- a started body has its tag and no entries
 pub started : (b : List ℕ) (t : ℕ) → start b t ≡ used 1
     → (k : BodyType) × (t ≡ typeByte k) × (1 ≤ length (startBytes (start b t) b t)) × Body k (take 1 (startBytes (start b t) b t)) []
 unfolding start
@@ -63,7 +64,7 @@ started b t e = go (bodyTypeOf t) refl b e
 
 -- ---- additions
 
--- an addition that is not a BadList, and whose numbers are of 64 bits, has an entry that fits
+-- an addition that is not a BadList, and whose numbers have 64 bits, has an entry that fits
 fits : (a : Addition) → InRange a → listIsBad a ≡ false → Fits (entryFor a)
 fits (addSeries id bytes lengths) h e = (h, even-list bytes lengths e)
 fits (addSample id time v) h e = h
@@ -72,7 +73,8 @@ fits (addExemplar id time v bytes lengths) h e = (h .0, h .1, h .2, even-list by
 fits (addMetadata id metric bytes lengths) h e = (h .0, even-list bytes lengths e)
 
 module _ (t : ℕ) (k : BodyType) (type : t ≡ typeByte k) where
-  -- "each addition hands back the body state with one entry more": also where the body was not built here (`readable`)
+  -- an addition hands back the state with one entry more (FORMAT 10.3), also where the body was not
+  -- built here (`readable`)
   pub one-more : (b : List ℕ) (u n : ℕ) (es : List Entry) (a : Addition) → InRange a → u ≤ length b → Body k (take u b) es
       → add b t u (entryFor a) (listIsBad a) ≡ used n
       → Body k (take n (sets b u (entryBytes b u (entryFor a)))) (es ++ (entryFor a ∷ []))

@@ -1,4 +1,4 @@
--- Laws of entries: the bytes of an entry, standing at a place of a body, read back there as that entry.
+-- Laws of entries: the bytes of an entry at a place of a body read back there as that entry.
 -- Assumes nothing.
 use mathlib.Core.Path.{_≡_, refl, _∙_}
 use mathlib.Core.Bool.{true}
@@ -19,7 +19,7 @@ use Rattle.body_format.specs.Building.{stringListBytes, deltaBytes, rowB
 use Rattle.body_format.specs.Laws.Fields.{place-same, Stands, stands-left, stands-right, read-byte, read-fixed, read-uvarint-at, read-varint-at, read-list}
 use Rattle.body_format.specs.Laws.Strings.{row-later}
 
--- an entry's numbers are of 64 bits, and its strings come in pairs
+-- an entry's numbers have 64 bits, and its strings come in pairs
 abbrev pub Fits : Entry → Type 0
 Fits (seriesEntry id ts) = (id < 2 ^ 64) × (length ts % 2 ≡ 0)
 Fits (sampleEntry id time v) = (id < 2 ^ 64) × (mag time < 2 ^ 63) × (v < 2 ^ 64)
@@ -27,7 +27,8 @@ Fits (tombstoneEntry id min max) = (id < 2 ^ 64) × (mag min < 2 ^ 63) × (mag m
 Fits (exemplarEntry id time v ts) = (id < 2 ^ 64) × (mag time < 2 ^ 63) × (v < 2 ^ 64) × (length ts % 2 ≡ 0)
 Fits (metadataEntry id metric ts) = (id < 2 ^ 64) × (length ts % 2 ≡ 0)
 
--- a row behind `used` bytes is a later one: the body s has the first id and the first timestamp that buffer b holds, each of 64 bits
+-- a row after `used` bytes is a later one: the body s has the first id and the first timestamp that
+-- buffer b holds, each of 64 bits
 pub record Firsts (b : List ℕ) (used : ℕ) (s : List ℕ) : Type 0 where
   pub later : used ≡ 1 → ⊥
   pub id : readBe8 (drop 1 s) ≡ readBe8 (drop 1 b)

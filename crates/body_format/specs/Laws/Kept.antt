@@ -26,7 +26,7 @@ use Rattle.body_format.specs.Entries.{BodyType, series, samples, tombsto
 use Rattle.body_format.specs.Laws.Fields.{byte-got, byte-short, fixed-got, fixed-short}
 use Rattle.body_format.specs.Laws.Bounds.{Every, uvarint-ahead}
 
--- where x succeeds, y does with the same value and place
+-- where x succeeds, y succeeds with the same value and place
 abbrev pub Kept : {A : Type 0} → Field A → Field A → Type 0
 Kept x y = Every (λ a q. y ≡ got a q) x
 
@@ -42,7 +42,7 @@ kept-within : {A B : Type 0} (p n : ℕ) (x y : Field A) (f g : A → ℕ → Fi
 kept-within p n (got a q) y f g h e k = rw e (k a q (h .1))
 kept-within p n (fault why) y f g h e k = tt
 
--- the first bytes from a place within s on
+-- the eight bytes at a place, all within s
 pub be8-kept : (s t : List ℕ) (p : ℕ) → p + 8 ≤ length s → readBe8 (drop p (s ++ t)) ≡ readBe8 (drop p s)
 be8-kept s t p h = ap readBe8 (drop-append-le p s t (omega arith)) ∙ append-be8 (drop p s) t (omega (arith, length-drop p s))
 

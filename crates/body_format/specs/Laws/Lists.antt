@@ -1,4 +1,5 @@
--- Laws of the list of entries: it steps without a count of steps, ends at the body's end, and grows by one entry where the bytes of one follow the body.
+-- Laws of the list of entries: it steps without a count of steps, ends at the body's end, and grows
+-- by one entry where the bytes of one follow the body.
 -- Assumes nothing.
 use mathlib.Core.Path.{_≡_, refl, sym, ap, _∙_}
 use mathlib.Core.Bool.{Bool, true, false, cond}
@@ -14,7 +15,7 @@ use Rattle.body_format.specs.Laws.Fields.{fixed-got}
 use Rattle.body_format.specs.Laws.Bounds.{Every, every-then, every-both, fixed-ahead, entry-ahead}
 use Rattle.body_format.specs.Laws.Kept.{entry-kept}
 
--- two ways to go on that agree wherever x comes to
+-- two ways to go on that agree on what x gives
 pub then-cong : {A B : Type 0} (P : A → ℕ → Type 0) (x : Field A) (f g : A → ℕ → Field B)
     → Every P x → ((a : A) (q : ℕ) → P a q → f a q ≡ g a q) → andThen x f ≡ andThen x g
 then-cong P (got a q) f g h k = k a q h
@@ -68,7 +69,8 @@ module _ (k : BodyType) (s : List ℕ) where
           (every-then (λ e q. (p + 1 ≤ q) × (q ≤ length s)) (λ es r. r ≡ length s) (entryAt k s p) _ (entry-ahead s k p)
           (λ e q l. every-then (λ es r. r ≡ length s) (λ es r. r ≡ length s) (entriesFrom n k s q) _ (ih q (l .1) (omega arith)) (λ es r m. m)))
 
--- Where the entries of s from p on are es, and the bytes x after s are an entry, those of s and x are es and that entry.
+-- Where the entries of s from p on are es, and the bytes x after s are an entry, those of s and x
+-- are es and that entry.
 module _ (k : BodyType) (s x : List ℕ) (d : Placed) (rows : hasRows k ≡ true → 17 ≤ length s) (some : 0 < length x)
     (this : entryAt k (s ++ x) (length s) ≡ got d (length (s ++ x))) where
   -- that entry alone, at the end of s
@@ -98,7 +100,7 @@ module _ (k : BodyType) (s x : List ℕ) (d : Placed) (rows : hasRows k ≡ true
 
 -- ---- where the entries begin
 
--- behind the first id and the first timestamp
+-- after the first id and the first timestamp
 pub first-rows : (s : List ℕ) → 17 ≤ length s → firstAt true s ≡ got 17 17
 first-rows s h = rw (ne-eqb (length s) 1 (omega arith), fixed-got s 1 (omega arith), fixed-got s 9 (omega arith))
 
@@ -107,7 +109,8 @@ pub first-one : (b : Bool) (s : List ℕ) → length s ≡ 1 → firstAt b s ≡
 first-one true s h = rw (eq-eqb (length s) 1 h)
 first-one false s h = refl
 
--- within the body; in a body of rows that has any byte after its type, behind the first id and the first timestamp
+-- within the body; in a body of rows that has any byte after its tag, after the first id and the
+-- first timestamp
 pub first-bounds : (rows : Bool) (s : List ℕ) → 1 ≤ length s
     → Every (λ first q. (1 ≤ first) × (first ≤ length s) × (rows ≡ true → (length s ≡ 1 → ⊥) → 17 ≤ first)) (firstAt rows s)
 first-bounds false s h = (omega arith, h, λ r l. let z : _≡_ {A = ℕ} 0 1 = cc in absurd (omega arith))
@@ -121,7 +124,8 @@ first-bounds true s h = go (eqb (length s) 1) refl
         every-then (λ id q. (1 + 8 ≤ q) × (q ≤ length s)) _ (fixedAt s 1) _ (fixed-ahead s 1)
         (λ id q l. every-then (λ time r. (q + 8 ≤ r) × (r ≤ length s)) _ (fixedAt s q) _ (fixed-ahead s q) (λ time r m. (omega arith, m .1, λ x y. omega arith)))
 
--- the entries of a body end at its end, and so much of a body of rows is there
+-- the entries of a body end at its end, and a body of rows with any byte after its tag has 17 bytes
+-- or more
 pub entries-whole : (k : BodyType) (s : List ℕ) → 1 ≤ length s
     → Every (λ es r. (r ≡ length s) × (hasRows k ≡ true → (length s ≡ 1 → ⊥) → 17 ≤ length s)) (entries k s)
 unfolding entries

@@ -1,4 +1,4 @@
--- Laws of places: which entry one stands for in a body of a known type, and which places are bad.
+-- Laws of places: which entry a place means in a body of a known type, and which places are bad.
 -- Assumes nothing.
 use mathlib.Core.Path.{_≡_, refl}
 use mathlib.Core.Bool.{Bool, true, false, cond, _&&_}
@@ -24,7 +24,7 @@ module _ (k : BodyType) (s : List ℕ) (p : ℕ) where
   unfolding badPlace
   bad-past h = rw (ne-eqb p 0 (λ e. omega arith), badPlace, lt-ltb (length s) p h)
 
-  -- place 1 stands for the first entry
+  -- place 1 means the first entry
   pub known-first : p ≡ 1 → 0 < length s → entryKnown (known k) s p ≡ firstEntry k s (firstAt (hasRows k) s)
   unfolding badPlace
   known-first e h =
@@ -41,7 +41,7 @@ module _ (k : BodyType) (s : List ℕ) (p : ℕ) where
       go true bad first = refl
       go false bad first = refl
 
-  -- a later one for the entry there
+  -- a later place means the entry there
   pub known-later : 2 ≤ p → p ≤ length s → (hasRows k ≡ true → 17 ≤ p) → entryKnown (known k) s p ≡ entryOrEnd k s p
   unfolding badPlace
   known-later h l r =

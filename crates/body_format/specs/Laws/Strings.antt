@@ -1,4 +1,5 @@
--- Laws of strings as they are lent, and of how many bytes an entry takes.
+-- Laws of strings as the caller gives them, one slice of bytes and one of lengths, and of how many
+-- bytes an entry takes.
 -- Assumes nothing.
 use mathlib.Core.Path.{_≡_, refl, ap, _∙_}
 use mathlib.Core.Bool.{Bool, true, false, _||_, not}
@@ -41,7 +42,8 @@ pub total-step : (lengths : List ℕ) (i : ℕ) → i < length lengths → total
 unfolding total
 total-step lengths i h = rw (add-one i, drop-cons lengths i 0 h)
 
--- where the slice has the first string, the bytes of its length, its own, and those of the strings after it
+-- where the slice has the first string: the bytes of its length, its own bytes, and those of the
+-- strings after it
 pub length-cut-strings : (bytes lengths : List ℕ) (n : ℕ) → n ≤ length bytes
     → length (stringsBytes (cutStrings bytes (n ∷ lengths))) ≡ length (uvarint n) + n + length (stringsBytes (cutStrings (drop n bytes) lengths))
 unfolding cutStrings

@@ -1,4 +1,4 @@
--- Laws of the types: which byte stands for which type, and for none.
+-- Laws of the types: which byte is the tag of which type, and which of none.
 -- Assumes nothing.
 use mathlib.Core.Path.{_≡_, refl, ap, _∙_}
 use mathlib.Core.Bool.{Bool, true, false, cond}
@@ -8,7 +8,7 @@ use borrow.Author.Tests.{ne-eqb, eqb-true}
 use lib.Dec.{eqb}
 use Rattle.body_format.specs.Entries.{BodyType, series, samples, tombstones, exemplars, metadata, typeByte, known, unknown, bodyTypeOf, rowsKnown}
 
--- each type's own byte
+-- each type's own tag
 pub type-known : (k : BodyType) → bodyTypeOf (typeByte k) ≡ known k
 unfolding bodyTypeOf
 type-known series = refl
@@ -22,7 +22,7 @@ pub type-unknown : (b : ℕ) → (b ≡ 1 → ⊥) → (b ≡ 2 → ⊥) → (b 
 unfolding bodyTypeOf
 type-unknown b h1 h2 h3 h4 h6 = rw (ne-eqb b 1 h1, ne-eqb b 2 h2, ne-eqb b 3 h3, ne-eqb b 4 h4, ne-eqb b 6 h6)
 
--- of the bytes other than 2, just 4 stands for a type with rows
+-- of the bytes other than 2, only 4 is the tag of a type with rows
 pub rows-by-four : (b : ℕ) → (b ≡ 2 → ⊥) → eqb b 4 ≡ rowsKnown (bodyTypeOf b)
 unfolding bodyTypeOf
 rows-by-four b h = rw (ne-eqb b 2 h, bodyTypeOf) (go (eqb b 1) (eqb b 3) (eqb b 4) (eqb b 6) refl refl refl)
@@ -37,7 +37,7 @@ rows-by-four b h = rw (ne-eqb b 2 h, bodyTypeOf) (go (eqb b 1) (eqb b 3) (eqb b 
     go true t3 true t6 e1 e3 e4 = let z : _≡_ {A = ℕ} 1 4 = cc (eqb-true b 1 e1, eqb-true b 4 e4) in absurd (omega arith)
     go false true true t6 e1 e3 e4 = let z : _≡_ {A = ℕ} 3 4 = cc (eqb-true b 3 e3, eqb-true b 4 e4) in absurd (omega arith)
 
--- the byte of a known type
+-- the tag of a known type
 pub type-byte : (b : ℕ) (k : BodyType) → bodyTypeOf b ≡ known k → b ≡ typeByte k
 unfolding bodyTypeOf
 type-byte b k = go (eqb b 1) (eqb b 2) (eqb b 3) (eqb b 4) (eqb b 6) refl refl refl refl refl

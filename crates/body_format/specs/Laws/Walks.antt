@@ -1,4 +1,5 @@
--- Laws of walks: reading an entry at each place in turn walks the list of entries that the definition reads, and each entry's strings.
+-- Laws of walks: reading an entry at each place in turn gives the list of entries that the
+-- definition reads, and each entry's strings.
 -- Assumes nothing.
 use mathlib.Core.Path.{_≡_, refl, ap, _∙_, subst}
 use mathlib.Core.Bool.{Bool, true, false, cond}
@@ -22,12 +23,12 @@ use Rattle.body_format.specs.Laws.Bounds.{Every, every-then, every-both,
 use Rattle.body_format.specs.Laws.Lists.{entries-end, entries-suc, first-bounds}
 use Rattle.body_format.specs.Laws.Places.{known-first, known-later}
 
--- where a reading succeeds, it is that
+-- where a reading succeeds, it is `got` of its value and place
 every-self : {A : Type 0} (x : Field A) → Every (λ a q. x ≡ got a q) x
 every-self (got a q) = refl
 every-self (fault why) = tt
 
--- the bytes of a string stand where it starts, and it ends behind them
+-- the bytes of a string are where it starts, and it ends after them
 string-bytes : (s : List ℕ) (p : ℕ) → Every (λ t q. (take (length (t .bytes)) (drop (t .start) s) ≡ t .bytes) × (q ≡ t .start + length (t .bytes))) (stringAt s p)
 unfolding stringAt
 string-bytes s p = every-then (λ n q. (p + 1 ≤ q) × (q ≤ length s)) _ (uvarintAt s p) _ (uvarint-ahead s p) (λ n q l. go n q (ltb (length (drop q s)) n) refl)
@@ -118,7 +119,7 @@ module _ (b : ℕ) (s : List ℕ) (k : BodyType) (type : bodyTypeOf b ≡ known 
   unfolding entryOrEnd
   before-end p h = rw (ne-eqb p (length (b ∷ s)) (omega arith))
 
-  -- from place p, at which is read what stands at `from`
+  -- from place p, at which the entry of place `from` is read
   walk : (n p from : ℕ) → readEntry (b ∷ s) p ≡ entryOrEnd k (b ∷ s) from → 1 ≤ from → from ≤ length (b ∷ s) → length (b ∷ s) ≤ n + from
       → (hasRows k ≡ true → from < length (b ∷ s) → 17 ≤ from)
       → Every (λ es r. Walks readEntry readString (b ∷ s) p es) (entriesFrom n k (b ∷ s) from)

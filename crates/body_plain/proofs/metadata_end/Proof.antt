@@ -1,4 +1,4 @@
--- `metadata_end` meets its contract: one field behind the other.
+-- `metadata_end` meets its contract: one field after the other.
 use borrow.Author.Needs.{needs}
 use Rattle.body_plain.proofs.Ending.{metadata-ends}
 use Rattle.body_plain.proofs.metadata_end.Statement.{statement}

@@ -1,4 +1,4 @@
--- `series_end` meets its contract: one field behind the other.
+-- `series_end` meets its contract: one field after the other.
 use borrow.Author.Needs.{needs}
 use Rattle.body_plain.proofs.Ending.{series-ends}
 use Rattle.body_plain.proofs.series_end.Statement.{statement}

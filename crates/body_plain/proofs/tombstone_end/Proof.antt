@@ -1,4 +1,4 @@
--- `tombstone_end` meets its contract: one field behind the other.
+-- `tombstone_end` meets its contract: one field after the other.
 use borrow.Author.Needs.{needs}
 use Rattle.body_plain.proofs.Ending.{tombstone-ends}
 use Rattle.body_plain.proofs.tombstone_end.Statement.{statement}

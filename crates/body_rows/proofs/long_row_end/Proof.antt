@@ -1,4 +1,4 @@
--- `long_row_end` meets its contract: one field behind the other.
+-- `long_row_end` meets its contract: one field after the other.
 use borrow.Author.Needs.{needs}
 use Rattle.body_rows.proofs.Ending.{row-ends}
 use Rattle.body_rows.proofs.long_row_end.Statement.{statement}

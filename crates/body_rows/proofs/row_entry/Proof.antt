@@ -28,7 +28,7 @@ returns-3 c =
     row-past _ _ _ (rows-rows (a .labelled)) (omega arith)
     (subst (λ (q : ℕ). length (a .body .now) < q) (c .before .before .row-place .ensures) (c .if3 .taken))
 
--- a row, or the end, at the place for this one
+-- a row, or the end, at the row's own place
 here : (c : tie.Else3) →
     let a = c .before .before .before .before .before .args in
     let k = rowsType (a .labelled) in

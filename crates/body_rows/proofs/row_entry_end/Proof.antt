@@ -1,4 +1,4 @@
--- `row_entry_end` meets its contract: the row's end, or that of the labels behind it.
+-- `row_entry_end` meets its contract: the row's end, or that of the labels after it.
 use borrow.Author.Needs.{needs}
 use Rattle.body_rows.proofs.Ending.{sample-ends, exemplar-ends}
 use Rattle.body_rows.proofs.row_entry_end.Statement.{statement}

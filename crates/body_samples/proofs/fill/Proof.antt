@@ -1,5 +1,5 @@
--- `body_samples::fill` meets its contract: a walk of its MIR, by hand. `plan_fill` decides by the body and the list's length; `fill_rows`, to which the list is given
--- up for good, fills as many rows as are planned, which are none after a refusal. All that the proof knows of the two is that they meet their contracts.
+-- `body_samples::fill` meets its contract, by a walk of its MIR by hand. `plan_fill` decides, and
+-- `fill_rows` takes over the list and fills the rows planned. Only their contracts are used.
 -- Assumes nothing.
 use mathlib.Core.Path.{_≡_, refl, ap, _∙_}
 use Prim.Native.Nat.{ℕ, _<_, _≤_, _^_}
@@ -97,7 +97,7 @@ module _ {M : Type 1} (𝓤 : URA M) (H : Heap 𝓤) (A : Atoms 𝓤) (W : Given
   abbrev Tok : Item 𝓤
   Tok = ‵ (flft κ q) ⊛ ‵ ftrue
 
-  -- what the second call is handed beside that
+  -- what the second call is given beside that
   abbrev Rest : Item 𝓤
   Rest = (‵ (flft κ′ q′) ⊛ ‵ ftrue) ⊛ ‵ (fsep (MutSlice (named 1) κ′ R .own d (vl ∷ [])) ftrue)
 
@@ -154,7 +154,8 @@ module _ {M : Type 1} (𝓤 : URA M) (H : Heap 𝓤) (A : Atoms 𝓤) (W : Given
         pass1 ! (init ! 12 refl (shr-slice-lawful 𝓤 H A W (named 0) κ u8 .typed body (vb ∷ []) gb .0)) $ pass1 ! (init ! 10 refl (tt, (tt, (record { fits = space .0 }, tt)))) $ pass0 ! $
         assigns ! (of-opd ! (load ! (from ! (fld ! refl (stop !))) (look-in ! 10 (sub ! 1 refl (whole !))))) (from ! (stop !)) (init ! 6 refl (tt, record { fits = space .0 })) $
         move ! (17 ∷ []) $ fsplit ! $ move ! (18 ∷ []) $ split ! $ move ! (1 ∷ 3 ∷ []) $ join ! $ nothing ! $ move ! (2 ∷ 0 ∷ []) $ join ! $
-        -- [the body's token; the rest; Own; _7; …; _6; …; _5; …; _4; …; _3; …; _2; …; _1; …; room for _0; …]
+        -- [the body's token; the rest; Own; _7; …; _6; …; _5; …; _4; …; _3; …; _2; …; _1; …; room
+        -- for _0; …]
         move ! (0 ∷ 2 ∷ []) $ use2 W (raw (PlanC 𝓤 H A mem run .pre to-plan) ⊛ ‵ Own) goes-plan $ split ! $
         calls-at ! fm (PlanC 𝓤 H A mem run) known to-plan (and-then ! (load ! (from ! (stop !)) (look ! 15 refl)) (and-then ! (load ! (from ! (stop !)) (look ! 9 refl)) (no-more !))) (λ u.
         use1 W (later (some (λ (r : Plan). (Tok ⊛ ‵ (P.the-row .own r (u ∷ []))) ⊛ raw (ensured 𝓤 H A plan.ended (plan.clauses 𝓤 H A mem run) (κ, tt) (body, (length (d .now), tt)) tt r)))) (id⊢ 𝓤 _) $ await ! tt $ pick ! (λ r.
@@ -170,7 +171,8 @@ module _ {M : Type 1} (𝓤 : URA M) (H : Heap 𝓤) (A : Atoms 𝓤) (W : Given
         split ! $ move ! (1 ∷ []) $ use1 W (some (λ (zs : Unit {0} × (Unit {0} × (List Sample × Unit {0}))). ‵ (lasts rows.ended (κ, (κ′, tt)) (body, (r .count, (d, tt))) zs) ⊛ raw (fact 𝓤 (zs .1 .1 .0 ≡ fillWith (r .count) 1 (now body) 0 (now d))))) (id⊢ 𝓤 _) $ pick ! (λ zs.
         split ! $ move ! (1 ∷ []) $ heard ! (zs .1 .1 .0 ≡ fillWith (r .count) 1 (now body) 0 (now d)) (λ f. fsplit ! $ drop ! $ fsplit ! $ drop ! $ fsplit ! $ fsplit ! $ move ! (1 ∷ []) $ feqL ! (λ l.
         move ! (2 ∷ []) $ split ! $ move ! (1 ∷ []) $ peeks ! unit (Is unit) (shows 𝓤 H A unit) t (w ∷ []) (λ is′.
-        -- [what the unit owns; the tokens; the last list; true; Own; _7; …; _6; …; _5; …; _4; …; _3; …; _2; …; _1; …; room for _0; …]
+        -- [what the unit owns; the tokens; the last list; true; Own; _7; …; _6; …; _5; …; _4; …;
+        -- _3; …; _2; …; _1; …; room for _0; …]
         land ! (from ! (stop !)) (init ! 9 refl (nothing-lawful 𝓤 H A W .typed t _ is′ .0)) $
         assigns ! (of-opd ! (load ! (from ! (fld ! refl (stop !))) (look-in ! 13 (sub ! 0 refl (whole !))))) (from ! (stop !)) (init ! 19 refl (EL.lawful E.the-type E′.the-laws 𝓤 H A W tt .typed (r .answer) _ (answer-is r u is) .0)) $
         drop ! $ owned ! E.the-row (Is E.the-row) (EL.makes E.the-type E′.the-plain 𝓤 H A) (r .answer) _ (answer-is r u is) $

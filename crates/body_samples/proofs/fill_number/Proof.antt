@@ -1,4 +1,4 @@
--- A refusal has its number.
+-- `fill_number` meets its contract: a refusal has its number.
 -- Assumes nothing.
 use borrow.Author.Needs.{needs}
 use Rattle.body_samples.proofs.fill_number.Statement.{statement}

@@ -1,5 +1,5 @@
--- `body_samples::fill_rows` meets its contract: a walk of its MIR, by hand, with a loop. The borrow of the list is opened once, before the loop, and closed once, after it.
--- In a turn `row_at` is called, of which only its contract is known, and its sample is stored at i.
+-- `body_samples::fill_rows` meets its contract, by a walk of its MIR by hand. The list's borrow is
+-- opened before the loop and closed after it. A turn calls `row_at` and stores its sample.
 -- Assumes nothing.
 use mathlib.Core.Path.{_≡_, refl, sym, ap, subst, _∙_}
 use Prim.Native.Nat.{ℕ, zero, suc, _+_, _*_, _<_, _≤_, _^_}
@@ -184,7 +184,7 @@ module _ {M : Type 1} (𝓤 : URA M) (H : Heap 𝓤) (A : Atoms 𝓤) (W : Given
     abbrev Left : Out → SProp 𝓤
     Left = afterBlock 𝓤 H (afterSeq 𝓤 H (Wp 𝓤 H C Λ En code-mir.t-4 (atReturn 𝓤 H En Post)) (atReturn 𝓤 H En Post))
 
-    -- what a row's value tells of its two fields
+    -- what a row's value says of its two fields
     sample-is : (r : Row) (u : Val) → Is U.the-row r (u ∷ []) → Is R (r .sample) (T′.lowered (r .sample) ∷ [])
     sample-is r u is = LL.owed U.the-type U′.the-laws r (u ∷ []) is .0
 
@@ -245,7 +245,8 @@ module _ {M : Type 1} (𝓤 : URA M) (H : Heap 𝓤) (A : Atoms 𝓤) (W : Given
         leaves-loop ! (load ! (from ! (stop !)) (look ! 6 refl)) $ exec ! C Λ En code-mir.t-4 (atRet En Post) $
         assigns ! (of-opd ! (unit-lit !)) (from ! (stop !)) (init ! 12 refl (tt, tt)) $
         move ! (0 ∷ 13 ∷ 14 ∷ 15 ∷ []) $ closes-slice ! tt R ys l len b o $
-        -- [obs; the borrow; the list's token; the body's; Own; _4; _5; _6; _7; _8; _9; _1; _2; _3; _0; and that each local dies]
+        -- [obs; the borrow; the list's token; the body's; Own; _4; _5; _6; _7; _8; _9; _1; _2; _3;
+        -- _0; and that each local dies]
         returns ! (look ! 14 refl) $ forget ! 5 refl $ forget ! 6 refl $ forget ! 8 refl $ forget ! 11 refl $ forget ! 12 refl $ forget ! 13 refl $ forget ! 14 refl $
         move ! (14 ∷ 15 ∷ []) $ free1 ! $ move ! (11 ∷ 14 ∷ []) $ free1 ! $ move ! (11 ∷ 13 ∷ []) $ free1 ! $ move ! (11 ∷ 12 ∷ []) $ free1 ! $
         move ! (5 ∷ 11 ∷ []) $ free1 ! $ move ! (5 ∷ 10 ∷ []) $ free1 ! $ move ! (5 ∷ 9 ∷ []) $ free1 ! $ move ! (5 ∷ 8 ∷ []) $ free1 ! $ move ! (5 ∷ 7 ∷ []) $ free1 ! $ move ! (5 ∷ 6 ∷ []) $ free1 ! $ free0 ! $

@@ -1,4 +1,4 @@
--- A refusal has its place.
+-- `fill_value` meets its contract: a refusal has its place.
 -- Assumes nothing.
 use borrow.Author.Needs.{needs}
 use mathlib.Core.Path.{ap}

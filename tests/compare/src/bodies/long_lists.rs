@@ -16,10 +16,10 @@ const PAIRS: [usize; 6] = [63, 64, 127, 128, 129, 1_000];
 /// Where the entries of some lists end: on both sides of the limit.
 const ENDS: [usize; 5] = [65_534, 65_535, 65_536, 65_537, 65_538];
 
-/// The longest text, and a byte more than its lengths say.
+/// The most string bytes of a list, and one more than its lengths say.
 const TEXT: usize = 65_537 + 1;
 
-/// Where an entry's answer tells the place of the first string.
+/// The index in an entry's `out` of the place of its first string.
 const STRINGS_AT: usize = 6;
 
 const NO_STRINGS: Strings = Strings {
@@ -60,8 +60,8 @@ fn compare_lists(rng: &mut Rng, bench: &mut Bench, old: &[u8]) -> Result<(), Str
     Ok(())
 }
 
-/// Where the number of pairs stands in the entry added to this body: an entry without strings ends
-/// one byte later.
+/// Where the number of pairs is in the entry added to this body: an entry without strings ends one
+/// byte later.
 fn head_end(old: &[u8], facts: &Facts) -> usize {
     let mut buffer = [old, &[0; 64]].concat();
     let (kind, used) = (old[0], old.len());
@@ -106,7 +106,7 @@ fn short(rng: &mut Rng, count: usize) -> Vec<u64> {
     (0..count).map(|_| rng.below(8) as u64).collect()
 }
 
-/// Short strings, every tenth about as long as one byte can tell.
+/// Short strings, every tenth about as long as a length of one byte can say.
 fn mixed(rng: &mut Rng, count: usize) -> Vec<u64> {
     let mut lengths = short(rng, count);
     for length in lengths.iter_mut().skip(9).step_by(10) {
@@ -115,14 +115,14 @@ fn mixed(rng: &mut Rng, count: usize) -> Vec<u64> {
     lengths
 }
 
-/// Empty strings: as many as fit, where their number of pairs takes three bytes, and a pair more; as
-/// many as a body has bytes at most, and a pair more.
+/// Empty strings: as many as fit, where their number of pairs takes three bytes, and a pair more;
+/// as many as a body has bytes at most, and a pair more.
 fn many_empty(head: usize) -> [Vec<u64>; 4] {
     let fitting = (BODY_MAX - head - 3) / 2 * 2;
     [fitting, fitting + 2, 65_536, 65_538].map(|count| vec![0; count])
 }
 
-/// One pair whose text alone is as long as a body at most, or a byte longer.
+/// One pair whose strings alone are as long as the longest body, or a byte longer.
 fn long_pairs() -> [Vec<u64>; 6] {
     [
         vec![0, 65_536],
@@ -156,8 +156,8 @@ fn long_length(head: usize, others: &[u64], end: usize) -> u64 {
 
 // ---- The additions ----
 
-/// The list in buffers with no room at all, a byte too short, just long enough, and longer; the last
-/// holds it, unless it is too long for any body.
+/// The list in buffers with no room at all, a byte too short, just long enough, and longer; the
+/// last holds it, unless it is too long for any body.
 fn compare_good(
     rng: &mut Rng,
     bench: &mut Bench,
@@ -176,7 +176,7 @@ fn compare_good(
     read_back(rng, bench, used, end)
 }
 
-/// By document 01: TooLong before NoRoom, both at the bytes used.
+/// By FORMAT 10.5: TooLong before NoRoom, both at the bytes used.
 fn good_answer(used: usize, end: usize, length: usize) -> Answer<2> {
     let used = used as u64;
     if end > BODY_MAX {
@@ -203,8 +203,8 @@ fn compare_spoilt(
     Ok(())
 }
 
-/// The list with lengths that add up to one more than the text, by any of them and by the last, and
-/// to one less; with an empty string more; with the last two strings joined.
+/// The list with lengths that add up to one more than the string bytes, by the last of them and by
+/// another, and to one less; with an empty string more; with the last two strings joined.
 fn spoilt(rng: &mut Rng, facts: &Facts) -> [Facts; 5] {
     let Facts { text, lengths, .. } = facts;
     let last = lengths.len() - 1;
@@ -224,7 +224,7 @@ fn spoilt(rng: &mut Rng, facts: &Facts) -> [Facts; 5] {
     ]
 }
 
-/// One addition to the old body in a buffer of this length, with new noise behind the body, so that
+/// One addition to the old body in a buffer of this length, with new noise after the body, so that
 /// a byte that is not written shows. The answer of both has to be the one that is wanted here, so
 /// that a list cannot be refused unnoticed.
 fn add(

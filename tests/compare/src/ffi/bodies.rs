@@ -81,7 +81,7 @@ pub fn body_start(buffer: &mut [u8], kind: u8) -> Answer<2> {
     answer(|out| unsafe { depot_wal_body_start(buffer, length, kind, out) })
 }
 
-/// The addition of the entry's kind.
+/// The addition of the entry's type.
 pub fn add(buffer: &mut [u8], state: State, entry: &NewEntry) -> Answer<2> {
     let State { kind, used } = state;
     let len = buffer.len();
@@ -118,7 +118,7 @@ pub fn add(buffer: &mut [u8], state: State, entry: &NewEntry) -> Answer<2> {
     })
 }
 
-/// The text and its length, the lengths and their count, as they are passed.
+/// The string bytes and their number, the lengths and their number, as they are passed.
 fn lent(strings: Strings) -> (*const u8, usize, *const u64, usize) {
     let (text, lengths) = (pointer(strings.text), pointer(strings.lengths));
     (text, strings.text.len(), lengths, strings.lengths.len())

@@ -38,7 +38,7 @@ sized c h =
     (c .row-size .ensures .0
     ∙ row-sized (a .buffer .now) (a .self .used .0) (a .id .0) (toBits (a .time .0)) (a .bits) _ (c .before .before .deltas-of .ensures))
 
--- the gate, with the definition's word on the list
+-- the gate, with the definition's test of the list
 gate : (c : tie.After-admit) →
     let a = c .before .before .before .before .before .before .before .before .before .before .args in
     c .admit .result

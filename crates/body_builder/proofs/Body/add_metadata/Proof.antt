@@ -26,7 +26,7 @@ sized : (c : tie.After-uvarint-len) →
 sized c h =
     metadata-sized _ _ _ _ _ (c .before .list-size .ensures .0) h (c .before .before .before .before .before .before .args .id .0) (c .before .before .before .before .before .before .args .metric-type) _ (ap (λ (n : ℕ). n + 1) (c .uvarint-len .ensures .0))
 
--- the gate, with the definition's word on the list
+-- the gate, with the definition's test of the list
 gate : (c : tie.After-admit) →
     let a = c .before .before .before .before .before .before .before .before .args in
     c .admit .result

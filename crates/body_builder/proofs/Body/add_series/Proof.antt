@@ -24,7 +24,7 @@ sized : (c : tie.After-list-size) →
     bad s ≡ false → Sized (8 + c .list-size .result) (length (entryBytes (s .args .buffer .now) (s .args .self .used .0) (entry s)))
 sized c h = series-sized _ _ _ _ _ (c .list-size .ensures .0) h (c .before .before .before .before .before .args .id .0)
 
--- the gate, with the definition's word on the list
+-- the gate, with the definition's test of the list
 gate : (c : tie.After-admit) →
     let a = c .before .before .before .before .before .before .before .args in
     c .admit .result ≡ gateFor (decided (a .buffer .now) (a .self .tag) (a .self .used .0) 1 (bad (c .before .before .before .before .before .before .before)) (8 + c .before .before .list-size .result))

@@ -1,4 +1,4 @@
--- `Body::start` meets its contract: its type, and then its room.
+-- `Body::start` meets its contract: its type, and then the buffer's room.
 use borrow.Author.Needs.{needs}
 use native.Mathlib.Omega.{arith}
 use Prim.Native.Nat.{ℕ}

@@ -8,7 +8,7 @@ use Rattle.body_builder.proofs.Adding.{state-within, gate-place, gate-t
 use Rattle.body_builder.proofs.builder.admit.Statement.{statement}
 use Rattle.body_builder.proofs.builder.admit.Tie as tie
 
--- what the first test leaves
+-- after the first test: the state is good
 good : (c : tie.Else1) → badState (c .before .before .before .args .buffer .now) (c .before .before .before .args .tag) (c .before .before .before .args .used) ≡ false
 good c = sym (c .before .state-is-bad .ensures) ∙ c .if1 .left
 

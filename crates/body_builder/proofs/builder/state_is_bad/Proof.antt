@@ -12,14 +12,14 @@ use Rattle.body_format.specs.Laws.Additions.{state-zero, state-past, state-insi
 use Rattle.body_builder.proofs.builder.state_is_bad.Statement.{statement}
 use Rattle.body_builder.proofs.builder.state_is_bad.Tie as tie
 
--- what the first two tests leave
+-- after the first two tests: what is left to be tested
 inside : (c : tie.Else2) →
     let a = c .before .before .before .args in
     badState (a .buffer .now) (a .tag) (a .used)
     ≡ (rowsKnown (bodyTypeOf (a .tag)) && (leb 2 (a .used) && leb (a .used) 16)) || not (eqb (getD (a .buffer .now) 0 0) (a .tag))
 inside c = state-inside _ _ _ (omega arith) (omega arith)
 
--- and the third
+-- and after the third
 rows : (c : tie.Else3) →
     let a = c .before .before .before .before .before .args in
     badState (a .buffer .now) (a .tag) (a .used) ≡ (rowsKnown (bodyTypeOf (a .tag)) && (leb 2 (a .used) && leb (a .used) 16))

@@ -1,4 +1,5 @@
--- `add_up` meets its contract. The loop's invariant: what is left of the size, against the lengths that are left.
+-- `add_up` meets its contract. The loop's invariant: what is left of the size is compared with the
+-- sum of the lengths that are left.
 use borrow.Author.Needs.{needs}
 use native.Mathlib.Omega.{arith}
 use Prim.Native.Nat.{_+_, _-_, _≤_}

@@ -1,4 +1,5 @@
--- `heads_size` meets its contract. The loop's invariant: the size so far and that of the lengths left make the whole.
+-- `heads_size` meets its contract. The loop's invariant: the size so far and that of the lengths
+-- that are left make the whole.
 use borrow.Author.Needs.{needs}
 use native.Mathlib.Omega.{arith}
 use Prim.Native.Nat.{_+_, _-_, _*_, _≤_}

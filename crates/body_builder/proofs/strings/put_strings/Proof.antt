@@ -1,4 +1,5 @@
--- `put_strings` meets its contract. The loop's invariant, `Laying`: with the strings that are left, the slice is as it is to be.
+-- `put_strings` meets its contract. The loop's invariant, `Laying`: once the strings that are left
+-- are written, the slice is as it is to be.
 use borrow.Author.Needs.{needs}
 use native.Mathlib.Omega.{arith}
 use Prim.Native.Nat.{_-_, _<_}

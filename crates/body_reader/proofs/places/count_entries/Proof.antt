@@ -1,5 +1,5 @@
--- `count_entries` meets its contract. The loop's invariant: the entries that are left, behind those
--- counted, make the whole list.
+-- `count_entries` meets its contract. The loop's invariant: the entries counted and those that are
+-- left make the whole list.
 use borrow.Author.Needs.{needs}
 use native.Mathlib.Omega.{arith}
 use Prim.Native.Nat.{_-_}

@@ -1,4 +1,5 @@
--- `list::fill` meets its contract: a walk of its MIR, by hand. The local array is lent for a lifetime that is made for the call, and comes back at the list that `body_samples::fill` says.
+-- `list::fill` meets its contract, by a walk of its MIR by hand. The local array is borrowed for a
+-- lifetime made for the call, and then holds the list that `body_samples::fill` says.
 -- Assumes nothing.
 use lib.Dec.{T as Holds, lit<}
 use mathlib.Core.Path.{_≡_, refl, sym, ap, subst, _∙_}
@@ -112,7 +113,7 @@ module _ {M : Type 1} (𝓤 : URA M) (H : Heap 𝓤) (A : Atoms 𝓤) (W : Given
   abbrev Said : FillAnswer → List Sample → Type 0
   Said r zs = (r ≡ fillAnswer (samplesIn (now body)) (length xs)) × (zs ≡ listAfter (samplesIn (now body)) xs)
 
-  -- the loan of the array at l under the name γ, and what is handed to the callee
+  -- the borrow of the array at l under the name γ, and what the callee is given
   module _ (l α : ℕ) (γ : GName) where
     abbrev d : RefT (List Sample)
     d = record { ptr = (l, 0); name = γ; now = xs }
@@ -135,7 +136,7 @@ module _ {M : Type 1} (𝓤 : URA M) (H : Heap 𝓤) (A : Atoms 𝓤) (W : Given
     goes : ent 𝓤 (⋆ 𝓤 H A (Tok ∷ ‵ Own ∷ (‵ (flft (α ∷ []) fullShare) ⊛ ‵ Lent) ∷ [])) (sep 𝓤 (FillC 𝓤 H A mem run .pre to-fill) (sem 𝓤 H A Own))
     goes =
         qed W (Tok ∷ ‵ Own ∷ (‵ (flft (α ∷ []) fullShare) ⊛ ‵ Lent) ∷ []) ∵ move ! (1 ∷ []) $ use1 W (‵ Own ⊛ ‵ Own) (shr-slice-copy 𝓤 H A W (named 0) κ u8 .twice body (vb ∷ [])) $ split ! $
-        -- [Own; Own; the body's token; the new token and the loan]
+        -- [Own; Own; the body's token; the new token and the borrow]
         move ! (3 ∷ []) $ split ! $ nothing ! $ move ! (2 ∷ 0 ∷ []) $ fjoin ! $ move ! (2 ∷ 0 ∷ []) $ fjoin ! $
         -- [what both own; the new token; Own; the body's token]
         move ! (3 ∷ []) $ split ! $ move ! (3 ∷ 1 ∷ []) $ join ! $ move ! (1 ∷ 0 ∷ []) $ join ! $
@@ -158,28 +159,32 @@ module _ {M : Type 1} (𝓤 : URA M) (H : Heap 𝓤) (A : Atoms 𝓤) (W : Given
         qed W (Tok ∷ ‵ (owns (ShrSlice (named 0) κ u8 ∷ Four ∷ []) (body, (xs, tt)) vals) ∷ []) ∵ enter ! C Λ code.function (vb ∷ va ∷ []) _ $
         alloc1 ! (λ l₀. alloc1 ! (λ l₁. alloc1 ! (λ l₂. alloc1 ! (λ l₃. alloc1 ! (λ l₄. alloc1 ! (λ l₅. alloc1 ! (λ l₆. alloc1 ! (λ l₇. alloc0 ! $ params1 ! $
         pass1 ! (init ! 12 refl (shr-slice-lawful 𝓤 H A W (named 0) κ u8 .typed body (vb ∷ []) gb .0)) $ pass1 ! (init ! 10 refl (typed xs va ga)) $ pass0 ! $
-        -- [_7; …; _6; …; _5; …; _4; …; _3; …; _2; …; _1; …; room for _0; …; the token; what body and list own]
+        -- [_7; …; _6; …; _5; …; _4; …; _3; …; _2; …; _1; …; room for _0; …; the token; what body
+        -- and list own]
         assigns ! (of-opd ! (load ! (from ! (stop !)) (look ! 10 refl))) (from ! (stop !)) (init ! 8 refl (typed xs va ga)) $
         assigns ! (addr ! (from ! (stop !))) (from ! (stop !)) (init ! 4 refl (tt, tt)) $
         assigns ! (agg ! (and-then ! (load ! (from ! (stop !)) (look ! 4 refl)) (and-then ! (lit ! tt) (no-more !)))) (from ! (stop !)) (init ! 2 refl (tt, (tt, (record { fits = lit< tt }, tt)))) $
         rewrite ! 2 (λ (n : ℕ). ‵ (fat fullShare (sliceTy (tyRef erased mut (pointee (R .written)))) l₆ 0 (sliceVal (l₃, 0) n))) (sym long) refl $
-        -- the array is lent
+        -- the array is borrowed
         move ! (8 ∷ []) $ owned ! Four (Is Four) (array-makes 𝓤 H A W R (LL.makes T.the-type T′.the-plain 𝓤 H A) 4) xs (va ∷ []) ga $
         move ! (1 ∷ 0 ∷ []) $ use2 W (‵ (partAt Four fullShare xs l₃ 0)) (part-in 𝓤 H A W Four refl fullShare xs l₃ 0 va) $
         use1 W (‵ (arr-parts (shares R) 4 .part fullShare xs l₃ 0)) (array-apart 𝓤 H A W R fullShare tt 4 xs l₃ 0) $ fsplit ! $ drop ! $
         rewrite ! 0 (λ (G : Fml). ‵ G) (parts-cells R fullShare xs l₃ 0) refl $
         lft-new ! tt (λ α. move ! (1 ∷ []) $
         use1 W (later (some (λ (γ : GName). ‵ (Lent l₃ α γ) ⊛ ‵ (flent (α ∷ []) (Held R (length xs) l₃ 0 γ))))) (lends-slice 𝓤 H A W R (named 1) (α ∷ []) xs l₃ 0 space) $ await ! tt $ pick ! (λ γ. split ! $
-        -- [the loan; the lender's part; the new token; _7; …; _6; …; _5; …; _4; …; …; _2; …; _1; …; room for _0; …; the token; what body and list own]
+        -- [the borrow; the lender's part; the new token; _7; …; _6; …; _5; …; _4; …; …; _2; …; _1;
+        -- …; room for _0; …; the token; what body and list own]
         move ! (19 ∷ []) $ fsplit ! $ move ! (1 ∷ []) $ drop ! $ move ! (3 ∷ 1 ∷ []) $ join ! $ move ! (18 ∷ 1 ∷ 0 ∷ []) $
         use3 W (raw (FillC 𝓤 H A mem run .pre (to-fill l₃ α γ)) ⊛ ‵ Own) (goes l₃ α γ) $ split ! $
-        -- [what is asked; Own; the lender's part; _7; …; _6; …; _5; …; _4; …; …; _2; …; _1; …; room for _0; …]
+        -- [what the call requires; Own; the lender's part; _7; …; _6; …; _5; …; _4; …; …; _2; …;
+        -- _1; …; room for _0; …]
         calls-at ! fm (FillC 𝓤 H A mem run) known (to-fill l₃ α γ) (and-then ! (load ! (from ! (stop !)) (look ! 14 refl)) (and-then ! (load ! (from ! (stop !)) (look ! 5 refl)) (no-more !))) (λ u.
         use1 W (later (some (λ (r : FillAnswer). (Toks l₃ α γ ⊛ ‵ (E.the-row .own r (u ∷ []))) ⊛ raw (ensured 𝓤 H A callee.ended (callee.clauses 𝓤 H A mem run) (κ, (α ∷ [], tt)) (body, (d l₃ α γ, tt)) tt r)))) (id⊢ 𝓤 _) $ await ! tt $ pick ! (λ r.
         split ! $ move ! (1 ∷ []) $ use1 W (some (λ (zs : Unit {0} × (List Sample × Unit {0})). ‵ (lasts callee.ended (κ, (α ∷ [], tt)) (body, (d l₃ α γ, tt)) zs) ⊛ raw (fact 𝓤 (Said r (zs .1 .0))))) (id⊢ 𝓤 _) $ pick ! (λ zs.
         split ! $ move ! (1 ∷ []) $ heard ! (Said r (zs .1 .0)) (λ e. fsplit ! $ drop ! $ fsplit ! $ fsplit ! $ move ! (1 ∷ []) $ feqL ! (λ l.
         move ! (2 ∷ []) $ split ! $ move ! (1 ∷ []) $ peeks ! E.the-row (Is E.the-row) (shows 𝓤 H A E.the-row) r (u ∷ []) (λ is.
-        -- [what the answer owns; the tokens; the last list; true; Own; the lender's part; _7; …; _6; …; _5; …; _4; …; …; _2; …; _1; …; room for _0; …]
+        -- [what the answer owns; the tokens; the last list; true; Own; the lender's part; _7; …;
+        -- _6; …; _5; …; _4; …; …; _2; …; _1; …; room for _0; …]
         land ! (from ! (stop !)) (init ! 12 refl (EL.lawful E.the-type E′.the-laws 𝓤 H A W tt .typed r _ is .0)) $
         -- the lifetime is ended, and the array taken back
         drop ! $ split ! $ move ! (1 ∷ []) $ split ! $ lft-end ! tt $ move ! (0 ∷ 6 ∷ 3 ∷ []) $
@@ -188,7 +193,8 @@ module _ {M : Type 1} (𝓤 : URA M) (H : Heap 𝓤) (A : Atoms 𝓤) (W : Given
         use1 W (‵ (partAt Four fullShare (zs .1 .0) l₃ 0)) (array-whole 𝓤 H A W R fullShare 4 (zs .1 .0) l₃ 0) $
         use1 W (some (λ (w : Val). ‵ (fat fullShare (tyArray T′.mir 4) l₃ 0 w) ⊛ ‵ (Four .own (zs .1 .0) (w ∷ [])))) (part-out 𝓤 H A W Four refl fullShare (zs .1 .0) l₃ 0) $ pick ! (λ w. split ! $ move ! (1 ∷ []) $
         peeks ! Four (Is Four) (shows 𝓤 H A Four) (zs .1 .0) (w ∷ []) (λ are. drop ! $
-        -- [_3; true; the token; true; Own; _7; …; _6; …; _5; …; _4; …; …; _2; …; _1; …; room for _0; …]
+        -- [_3; true; the token; true; Own; _7; …; _6; …; _5; …; _4; …; …; _2; …; _1; …; room for
+        -- _0; …]
         assigns ! (of-opd ! (load ! (from ! (stop !)) (look ! 0 refl))) (from ! (stop !)) (init ! 5 refl (typed (zs .1 .0) w are)) $
         assigns ! (agg ! (and-then ! (load ! (from ! (stop !)) (look ! 11 refl)) (and-then ! (load ! (from ! (stop !)) (look ! 5 refl)) (no-more !)))) (from ! (stop !)) (init ! 18 refl (made r (zs .1 .0) u w is are)) $
         returns ! (look ! 18 refl) $ forget ! 0 refl $ forget ! 5 refl $ forget ! 7 refl $ forget ! 9 refl $ forget ! 11 refl $ forget ! 14 refl $ forget ! 16 refl $ forget ! 18 refl $

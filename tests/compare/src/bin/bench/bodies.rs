@@ -38,7 +38,7 @@ pub fn bench() -> String {
     format!("bodies, second / ours, {}", rows.join(", "))
 }
 
-/// Document 01's switch: id 7 to 0, id 8 to 1.0.
+/// The switch of FORMAT 13: id 7 to 0, id 8 to 1.0.
 fn switch() -> [Sample; 2] {
     [row(7, 1_000, 0), row(8, 1_000, 0x3FF0 << 48)]
 }

@@ -36,7 +36,7 @@ fn build() -> &'static str {
     }
 }
 
-/// The processor's name, as Linux tells it.
+/// The processor's name, as Linux reports it.
 fn processor() -> String {
     let info = fs::read_to_string("/proc/cpuinfo").unwrap_or_default();
     let name = info

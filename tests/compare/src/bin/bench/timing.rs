@@ -1,9 +1,9 @@
-//! Rounds, and what is told of them.
+//! Rounds, and what is reported of them.
 
 use std::time::Instant;
 
-/// The contenders, by their places: our plain call, our call with a lent table, the second program,
-/// the SSE4.2 instruction.
+/// The contenders, by their places: our plain call, our call with a caller's table, the second
+/// program, the SSE4.2 instruction.
 pub const PLAIN: usize = 0;
 pub const LENT: usize = 1;
 pub const SECOND: usize = 2;
