@@ -185,9 +185,11 @@ pub(crate) fn put_row(
     row: Deltas,
     bits: u64,
 ) -> usize
-    requires { ⌜ (row ≡ deltasIn (now buffer) (id .0) (toBits (time .0))) × (at + length (rowBytes (now buffer) at (id .0) (toBits (time .0)) bits) ≤ length (now buffer)) ⌝ }
+    requires { ⌜ (row ≡ deltasIn (now buffer) (id .0) (toBits (time .0))) ×
+        (at + length (rowBytes (now buffer) at (id .0) (toBits (time .0)) bits) ≤ length (now buffer)) ⌝ }
     ensures { λ r. ⌜ r ≡ at + length (rowBytes (now (buffer .entry)) at (id .0) (toBits (time .0)) bits) ⌝ }
-    ensures { λ _. ⌜ now (buffer .exit) ≡ sets (now (buffer .entry)) at (rowBytes (now (buffer .entry)) at (id .0) (toBits (time .0)) bits) ⌝ }
+    ensures { λ _. ⌜ now (buffer .exit) ≡ sets (now (buffer .entry)) at
+        (rowBytes (now (buffer .entry)) at (id .0) (toBits (time .0)) bits) ⌝ }
 {
     if at == 1 {
         let second = big_endian::put_be8(buffer, at, id.0);
@@ -215,9 +217,12 @@ pub(crate) fn put_tombstone(
     min: Timestamp,
     max: Timestamp,
 ) -> usize
-    requires { ⌜ at + length (entryBytes (now buffer) at (tombstoneEntry (id .0) (min .0) (max .0))) ≤ length (now buffer) ⌝ }
-    ensures { λ r. ⌜ r ≡ at + length (entryBytes (now (buffer .entry)) at (tombstoneEntry (id .0) (min .0) (max .0))) ⌝ }
-    ensures { λ _. ⌜ now (buffer .exit) ≡ sets (now (buffer .entry)) at (entryBytes (now (buffer .entry)) at (tombstoneEntry (id .0) (min .0) (max .0))) ⌝ }
+    requires { ⌜ at + length (entryBytes (now buffer) at (tombstoneEntry (id .0) (min .0) (max .0))) ≤ length
+        (now buffer) ⌝ }
+    ensures { λ r. ⌜ r ≡ at + length
+        (entryBytes (now (buffer .entry)) at (tombstoneEntry (id .0) (min .0) (max .0))) ⌝ }
+    ensures { λ _. ⌜ now (buffer .exit) ≡ sets (now (buffer .entry)) at
+        (entryBytes (now (buffer .entry)) at (tombstoneEntry (id .0) (min .0) (max .0))) ⌝ }
 {
     let second = big_endian::put_be8(buffer, at, id.0);
     let third = varint::put_varint(buffer, second, min.0);
@@ -232,9 +237,15 @@ pub(crate) fn put_series(
     strings: &[u8],
     lengths: &[u64],
 ) -> usize
-    requires { ⌜ (total (now lengths) ≡ length (now strings)) × (at + length (entryBytes (now buffer) at (seriesEntry (id .0) (cutStrings (now strings) (now lengths)))) ≤ length (now buffer)) ⌝ }
-    ensures { λ r. ⌜ r ≡ at + length (entryBytes (now (buffer .entry)) at (seriesEntry (id .0) (cutStrings (now (strings .entry)) (now (lengths .entry))))) ⌝ }
-    ensures { λ _. ⌜ now (buffer .exit) ≡ sets (now (buffer .entry)) at (entryBytes (now (buffer .entry)) at (seriesEntry (id .0) (cutStrings (now (strings .entry)) (now (lengths .entry))))) ⌝ }
+    requires { ⌜ (total (now lengths) ≡ length (now strings)) ×
+        (at + length (entryBytes (now buffer) at
+        (seriesEntry (id .0) (cutStrings (now strings) (now lengths)))) ≤ length (now buffer)) ⌝ }
+    ensures { λ r. ⌜ r ≡ at + length
+        (entryBytes (now (buffer .entry)) at
+        (seriesEntry (id .0) (cutStrings (now (strings .entry)) (now (lengths .entry))))) ⌝ }
+    ensures { λ _. ⌜ now (buffer .exit) ≡ sets (now (buffer .entry)) at
+        (entryBytes (now (buffer .entry)) at
+        (seriesEntry (id .0) (cutStrings (now (strings .entry)) (now (lengths .entry))))) ⌝ }
 {
     let list = big_endian::put_be8(buffer, at, id.0);
     put_list(buffer, list, strings, lengths)
@@ -249,9 +260,15 @@ pub(crate) fn put_metadata(
     strings: &[u8],
     lengths: &[u64],
 ) -> usize
-    requires { ⌜ (total (now lengths) ≡ length (now strings)) × (at + length (entryBytes (now buffer) at (metadataEntry (id .0) metric (cutStrings (now strings) (now lengths)))) ≤ length (now buffer)) ⌝ }
-    ensures { λ r. ⌜ r ≡ at + length (entryBytes (now (buffer .entry)) at (metadataEntry (id .0) metric (cutStrings (now (strings .entry)) (now (lengths .entry))))) ⌝ }
-    ensures { λ _. ⌜ now (buffer .exit) ≡ sets (now (buffer .entry)) at (entryBytes (now (buffer .entry)) at (metadataEntry (id .0) metric (cutStrings (now (strings .entry)) (now (lengths .entry))))) ⌝ }
+    requires { ⌜ (total (now lengths) ≡ length (now strings)) ×
+        (at + length (entryBytes (now buffer) at
+        (metadataEntry (id .0) metric (cutStrings (now strings) (now lengths)))) ≤ length (now buffer)) ⌝ }
+    ensures { λ r. ⌜ r ≡ at + length
+        (entryBytes (now (buffer .entry)) at
+        (metadataEntry (id .0) metric (cutStrings (now (strings .entry)) (now (lengths .entry))))) ⌝ }
+    ensures { λ _. ⌜ now (buffer .exit) ≡ sets (now (buffer .entry)) at
+        (entryBytes (now (buffer .entry)) at
+        (metadataEntry (id .0) metric (cutStrings (now (strings .entry)) (now (lengths .entry))))) ⌝ }
 {
     let second = uvarint::put_uvarint(buffer, at, id.0);
     buffer[second] = metric;

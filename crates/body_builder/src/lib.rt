@@ -69,8 +69,11 @@ impl Body {
         strings: &[u8],
         lengths: &[u64],
     ) -> Added
-        ensures answer { λ r. ⌜ r ≡ addedOf (self .tag) (builder (now (buffer .entry)) (self .tag) (self .used .0) (addSeries (id .0) (now (strings .entry)) (now (lengths .entry))) .outcome) ⌝ }
-        ensures bytes { λ _. ⌜ now (buffer .exit) ≡ builder (now (buffer .entry)) (self .tag) (self .used .0) (addSeries (id .0) (now (strings .entry)) (now (lengths .entry))) .buffer ⌝ }
+        ensures answer { λ r. ⌜ r ≡ addedOf (self .tag)
+            (builder (now (buffer .entry)) (self .tag) (self .used .0)
+            (addSeries (id .0) (now (strings .entry)) (now (lengths .entry))) .outcome) ⌝ }
+        ensures bytes { λ _. ⌜ now (buffer .exit) ≡ builder (now (buffer .entry)) (self .tag) (self .used .0)
+            (addSeries (id .0) (now (strings .entry)) (now (lengths .entry))) .buffer ⌝ }
     {
         let at = self.used.0;
         let bad = list_is_bad(strings, lengths);
@@ -94,8 +97,10 @@ impl Body {
         time: Timestamp,
         bits: u64,
     ) -> Added
-        ensures answer { λ r. ⌜ r ≡ addedOf (self .tag) (builder (now (buffer .entry)) (self .tag) (self .used .0) (addSample (id .0) (time .0) bits) .outcome) ⌝ }
-        ensures bytes { λ _. ⌜ now (buffer .exit) ≡ builder (now (buffer .entry)) (self .tag) (self .used .0) (addSample (id .0) (time .0) bits) .buffer ⌝ }
+        ensures answer { λ r. ⌜ r ≡ addedOf (self .tag)
+            (builder (now (buffer .entry)) (self .tag) (self .used .0) (addSample (id .0) (time .0) bits) .outcome) ⌝ }
+        ensures bytes { λ _. ⌜ now (buffer .exit) ≡ builder (now (buffer .entry)) (self .tag) (self .used .0)
+            (addSample (id .0) (time .0) bits) .buffer ⌝ }
     {
         let at = self.used.0;
         let row = deltas_of(&*buffer, id, time);
@@ -118,8 +123,11 @@ impl Body {
         min: Timestamp,
         max: Timestamp,
     ) -> Added
-        ensures answer { λ r. ⌜ r ≡ addedOf (self .tag) (builder (now (buffer .entry)) (self .tag) (self .used .0) (addTombstone (id .0) (min .0) (max .0)) .outcome) ⌝ }
-        ensures bytes { λ _. ⌜ now (buffer .exit) ≡ builder (now (buffer .entry)) (self .tag) (self .used .0) (addTombstone (id .0) (min .0) (max .0)) .buffer ⌝ }
+        ensures answer { λ r. ⌜ r ≡ addedOf (self .tag)
+            (builder (now (buffer .entry)) (self .tag) (self .used .0)
+            (addTombstone (id .0) (min .0) (max .0)) .outcome) ⌝ }
+        ensures bytes { λ _. ⌜ now (buffer .exit) ≡ builder (now (buffer .entry)) (self .tag) (self .used .0)
+            (addTombstone (id .0) (min .0) (max .0)) .buffer ⌝ }
     {
         let at = self.used.0;
         let size = tombstone_size(min, max);
@@ -143,8 +151,11 @@ impl Body {
         strings: &[u8],
         lengths: &[u64],
     ) -> Added
-        ensures answer { λ r. ⌜ r ≡ addedOf (self .tag) (builder (now (buffer .entry)) (self .tag) (self .used .0) (addExemplar (id .0) (time .0) bits (now (strings .entry)) (now (lengths .entry))) .outcome) ⌝ }
-        ensures bytes { λ _. ⌜ now (buffer .exit) ≡ builder (now (buffer .entry)) (self .tag) (self .used .0) (addExemplar (id .0) (time .0) bits (now (strings .entry)) (now (lengths .entry))) .buffer ⌝ }
+        ensures answer { λ r. ⌜ r ≡ addedOf (self .tag)
+            (builder (now (buffer .entry)) (self .tag) (self .used .0)
+            (addExemplar (id .0) (time .0) bits (now (strings .entry)) (now (lengths .entry))) .outcome) ⌝ }
+        ensures bytes { λ _. ⌜ now (buffer .exit) ≡ builder (now (buffer .entry)) (self .tag) (self .used .0)
+            (addExemplar (id .0) (time .0) bits (now (strings .entry)) (now (lengths .entry))) .buffer ⌝ }
     {
         let at = self.used.0;
         let bad = list_is_bad(strings, lengths);
@@ -171,8 +182,11 @@ impl Body {
         strings: &[u8],
         lengths: &[u64],
     ) -> Added
-        ensures answer { λ r. ⌜ r ≡ addedOf (self .tag) (builder (now (buffer .entry)) (self .tag) (self .used .0) (addMetadata (id .0) «metric_type» (now (strings .entry)) (now (lengths .entry))) .outcome) ⌝ }
-        ensures bytes { λ _. ⌜ now (buffer .exit) ≡ builder (now (buffer .entry)) (self .tag) (self .used .0) (addMetadata (id .0) «metric_type» (now (strings .entry)) (now (lengths .entry))) .buffer ⌝ }
+        ensures answer { λ r. ⌜ r ≡ addedOf (self .tag)
+            (builder (now (buffer .entry)) (self .tag) (self .used .0)
+            (addMetadata (id .0) «metric_type» (now (strings .entry)) (now (lengths .entry))) .outcome) ⌝ }
+        ensures bytes { λ _. ⌜ now (buffer .exit) ≡ builder (now (buffer .entry)) (self .tag) (self .used .0)
+            (addMetadata (id .0) «metric_type» (now (strings .entry)) (now (lengths .entry))) .buffer ⌝ }
     {
         let at = self.used.0;
         let bad = list_is_bad(strings, lengths);

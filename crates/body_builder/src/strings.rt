@@ -70,9 +70,11 @@ fn heads_size(lengths: &[u64]) -> usize
 
 // The list at a place that has room for it; the place after it.
 pub(crate) fn put_list(buffer: &mut [u8], at: usize, strings: &[u8], lengths: &[u64]) -> usize
-    requires { ⌜ (total (now lengths) ≡ length (now strings)) × (at + length (stringListBytes (cutStrings (now strings) (now lengths))) ≤ length (now buffer)) ⌝ }
+    requires { ⌜ (total (now lengths) ≡ length (now strings)) ×
+        (at + length (stringListBytes (cutStrings (now strings) (now lengths))) ≤ length (now buffer)) ⌝ }
     ensures { λ r. ⌜ r ≡ at + length (stringListBytes (cutStrings (now (strings .entry)) (now (lengths .entry)))) ⌝ }
-    ensures { λ _. ⌜ now (buffer .exit) ≡ sets (now (buffer .entry)) at (stringListBytes (cutStrings (now (strings .entry)) (now (lengths .entry)))) ⌝ }
+    ensures { λ _. ⌜ now (buffer .exit) ≡ sets (now (buffer .entry)) at
+        (stringListBytes (cutStrings (now (strings .entry)) (now (lengths .entry)))) ⌝ }
 {
     let pair_count = (lengths.len() / 2) as u64;
     let first = uvarint::put_uvarint(buffer, at, pair_count);
@@ -81,9 +83,11 @@ pub(crate) fn put_list(buffer: &mut [u8], at: usize, strings: &[u8], lengths: &[
 
 // The strings in a row, each after its length.
 fn put_strings(buffer: &mut [u8], at: usize, strings: &[u8], lengths: &[u64]) -> usize
-    requires { ⌜ (total (now lengths) ≡ length (now strings)) × (at + length (stringsBytes (cutStrings (now strings) (now lengths))) ≤ length (now buffer)) ⌝ }
+    requires { ⌜ (total (now lengths) ≡ length (now strings)) ×
+        (at + length (stringsBytes (cutStrings (now strings) (now lengths))) ≤ length (now buffer)) ⌝ }
     ensures { λ r. ⌜ r ≡ at + length (stringsBytes (cutStrings (now (strings .entry)) (now (lengths .entry)))) ⌝ }
-    ensures { λ _. ⌜ now (buffer .exit) ≡ sets (now (buffer .entry)) at (stringsBytes (cutStrings (now (strings .entry)) (now (lengths .entry)))) ⌝ }
+    ensures { λ _. ⌜ now (buffer .exit) ≡ sets (now (buffer .entry)) at
+        (stringsBytes (cutStrings (now (strings .entry)) (now (lengths .entry)))) ⌝ }
 {
     let mut place = at;
     let mut from: usize = 0;

@@ -89,7 +89,8 @@ withEntry (refused why) e es = es
 unfoldable pub added : Builder → ℕ → List ℕ → ℕ → List Addition → List Entry
 added B t b u [] = []
 added B t b u (a ∷ rest) =
-    withEntry (add b t u (entryFor a) (listIsBad a)) (entryFor a) (added B t (B b t u a .buffer) (usedThen (B b t u a .outcome) u) rest)
+    withEntry (add b t u (entryFor a) (listIsBad a)) (entryFor a)
+    (added B t (B b t u a .buffer) (usedThen (B b t u a .outcome) u) rest)
 
 -- ---- reading
 
@@ -119,7 +120,8 @@ bodyCalls = record { start = starter; add = builder; check = checkBody; entry = 
 abbrev pub Strings : StringReader → List ℕ → ℕ → List (List ℕ) → Type 0
 Strings S s p [] = Unit {0}
 Strings S s p (t ∷ ts) =
-    (from : ℕ) × (S s p ≡ StringFound (offset from) (length t)) × (take (length t) (drop from s) ≡ t) × Strings S s (from + length t) ts
+    (from : ℕ) × (S s p ≡ StringFound (offset from) (length t)) × (take (length t) (drop from s) ≡ t) × Strings S s
+    (from + length t) ts
 
 abbrev pub stringsOf : Entry → List (List ℕ)
 stringsOf (seriesEntry id ts) = ts

@@ -17,8 +17,10 @@ use Rattle.body_format.specs.Calls.{Addition, addSeries, addSample, addT
 -- DEMAND 1, what it says of the caller's bytes
 pub record Demand1 (C : BodyCalls) : Type 0 where
   -- a refusal changes no byte
-  pub start-refused : (b : List ℕ) (t : ℕ) (why : Refusal) → C .start b t .outcome ≡ refused why → C .start b t .buffer ≡ b
-  pub add-refused : (b : List ℕ) (t u : ℕ) (a : Addition) (why : Refusal) → C .add b t u a .outcome ≡ refused why → C .add b t u a .buffer ≡ b
+  pub start-refused : (b : List ℕ) (t : ℕ) (why : Refusal) → C .start b t .outcome ≡ refused why
+      → C .start b t .buffer ≡ b
+  pub add-refused : (b : List ℕ) (t u : ℕ) (a : Addition) (why : Refusal) → C .add b t u a .outcome ≡ refused why
+      → C .add b t u a .buffer ≡ b
   -- starting a body writes its tag, and nothing else
   pub start-byte : (b : List ℕ) (t n : ℕ) → C .start b t .outcome ≡ used n → C .start b t .buffer ≡ t ∷ drop 1 b
   -- an addition changes only the bytes from the old place to the new
@@ -41,7 +43,8 @@ AllInRange (a ∷ rest) = InRange a × AllInRange rest
 
 -- the bytes of the body that a list of additions makes in buffer b, from a start with tag t
 abbrev pub bodyMade : BodyCalls → List ℕ → ℕ → List Addition → List ℕ
-bodyMade C b t xs = take (finalUsed (C .add) t (C .start b t .buffer) 1 xs) (finalBuffer (C .add) t (C .start b t .buffer) 1 xs)
+bodyMade C b t xs = take (finalUsed (C .add) t (C .start b t .buffer) 1 xs)
+    (finalBuffer (C .add) t (C .start b t .buffer) 1 xs)
 
 -- DEMAND 2, for bodies
 pub record Demand2 (C : BodyCalls) : Type 0 where

@@ -39,9 +39,14 @@ pub extern "C" fn depot_wal_add_series(
     out: &mut [u64; 2],
 ) -> u32
     ensures { λ r. ⌜
-        (r ≡ addedCode (addedOf tag (builder (now (buffer .entry)) tag used (addSeries id (now (strings .entry)) (now (lengths .entry))) .outcome)))
-        × (now (out .exit) ≡ addedOut used (addedOf tag (builder (now (buffer .entry)) tag used (addSeries id (now (strings .entry)) (now (lengths .entry))) .outcome)))
-        × (now (buffer .exit) ≡ builder (now (buffer .entry)) tag used (addSeries id (now (strings .entry)) (now (lengths .entry))) .buffer) ⌝ }
+        (r ≡ addedCode (addedOf tag
+        (builder (now (buffer .entry)) tag used
+        (addSeries id (now (strings .entry)) (now (lengths .entry))) .outcome)))
+        × (now (out .exit) ≡ addedOut used
+        (addedOf tag (builder (now (buffer .entry)) tag used
+        (addSeries id (now (strings .entry)) (now (lengths .entry))) .outcome)))
+        × (now (buffer .exit) ≡ builder (now (buffer .entry)) tag used
+        (addSeries id (now (strings .entry)) (now (lengths .entry))) .buffer) ⌝ }
 {
     let state = Body {
         tag,
@@ -64,7 +69,8 @@ pub extern "C" fn depot_wal_add_sample(
 ) -> u32
     ensures { λ r. ⌜
         (r ≡ addedCode (addedOf tag (builder (now (buffer .entry)) tag used (addSample id time bits) .outcome)))
-        × (now (out .exit) ≡ addedOut used (addedOf tag (builder (now (buffer .entry)) tag used (addSample id time bits) .outcome)))
+        × (now (out .exit) ≡ addedOut used
+        (addedOf tag (builder (now (buffer .entry)) tag used (addSample id time bits) .outcome)))
         × (now (buffer .exit) ≡ builder (now (buffer .entry)) tag used (addSample id time bits) .buffer) ⌝ }
 {
     let state = Body {
@@ -88,7 +94,8 @@ pub extern "C" fn depot_wal_add_tombstone(
 ) -> u32
     ensures { λ r. ⌜
         (r ≡ addedCode (addedOf tag (builder (now (buffer .entry)) tag used (addTombstone id min max) .outcome)))
-        × (now (out .exit) ≡ addedOut used (addedOf tag (builder (now (buffer .entry)) tag used (addTombstone id min max) .outcome)))
+        × (now (out .exit) ≡ addedOut used
+        (addedOf tag (builder (now (buffer .entry)) tag used (addTombstone id min max) .outcome)))
         × (now (buffer .exit) ≡ builder (now (buffer .entry)) tag used (addTombstone id min max) .buffer) ⌝ }
 {
     let state = Body {
@@ -113,9 +120,14 @@ pub extern "C" fn depot_wal_add_exemplar(
     out: &mut [u64; 2],
 ) -> u32
     ensures { λ r. ⌜
-        (r ≡ addedCode (addedOf tag (builder (now (buffer .entry)) tag used (addExemplar id time bits (now (strings .entry)) (now (lengths .entry))) .outcome)))
-        × (now (out .exit) ≡ addedOut used (addedOf tag (builder (now (buffer .entry)) tag used (addExemplar id time bits (now (strings .entry)) (now (lengths .entry))) .outcome)))
-        × (now (buffer .exit) ≡ builder (now (buffer .entry)) tag used (addExemplar id time bits (now (strings .entry)) (now (lengths .entry))) .buffer) ⌝ }
+        (r ≡ addedCode (addedOf tag
+        (builder (now (buffer .entry)) tag used
+        (addExemplar id time bits (now (strings .entry)) (now (lengths .entry))) .outcome)))
+        × (now (out .exit) ≡ addedOut used
+        (addedOf tag (builder (now (buffer .entry)) tag used
+        (addExemplar id time bits (now (strings .entry)) (now (lengths .entry))) .outcome)))
+        × (now (buffer .exit) ≡ builder (now (buffer .entry)) tag used
+        (addExemplar id time bits (now (strings .entry)) (now (lengths .entry))) .buffer) ⌝ }
 {
     let state = Body {
         tag,
@@ -145,9 +157,14 @@ pub extern "C" fn depot_wal_add_metadata(
     out: &mut [u64; 2],
 ) -> u32
     ensures { λ r. ⌜
-        (r ≡ addedCode (addedOf tag (builder (now (buffer .entry)) tag used (addMetadata id «metric_type» (now (strings .entry)) (now (lengths .entry))) .outcome)))
-        × (now (out .exit) ≡ addedOut used (addedOf tag (builder (now (buffer .entry)) tag used (addMetadata id «metric_type» (now (strings .entry)) (now (lengths .entry))) .outcome)))
-        × (now (buffer .exit) ≡ builder (now (buffer .entry)) tag used (addMetadata id «metric_type» (now (strings .entry)) (now (lengths .entry))) .buffer) ⌝ }
+        (r ≡ addedCode (addedOf tag
+        (builder (now (buffer .entry)) tag used
+        (addMetadata id «metric_type» (now (strings .entry)) (now (lengths .entry))) .outcome)))
+        × (now (out .exit) ≡ addedOut used
+        (addedOf tag (builder (now (buffer .entry)) tag used
+        (addMetadata id «metric_type» (now (strings .entry)) (now (lengths .entry))) .outcome)))
+        × (now (buffer .exit) ≡ builder (now (buffer .entry)) tag used
+        (addMetadata id «metric_type» (now (strings .entry)) (now (lengths .entry))) .buffer) ⌝ }
 {
     let state = Body {
         tag,
@@ -160,7 +177,8 @@ pub extern "C" fn depot_wal_add_metadata(
 // Checks a body: its number of entries, or the refusal.
 #[no_mangle]
 pub extern "C" fn depot_wal_body_check(bytes: &[u8], out: &mut [u64; 1]) -> u32
-    ensures { λ r. ⌜ (r ≡ checkCode (checkBody (now (bytes .entry)))) × (now (out .exit) ≡ checkOut (checkBody (now (bytes .entry)))) ⌝ }
+    ensures { λ r. ⌜ (r ≡ checkCode (checkBody (now (bytes .entry)))) ×
+        (now (out .exit) ≡ checkOut (checkBody (now (bytes .entry)))) ⌝ }
 {
     let answer = body_reader::check(bytes);
     check_result(answer, out)
@@ -169,7 +187,8 @@ pub extern "C" fn depot_wal_body_check(bytes: &[u8], out: &mut [u64; 1]) -> u32
 // Reads the entry at a place.
 #[no_mangle]
 pub extern "C" fn depot_wal_entry_at(bytes: &[u8], place: usize, out: &mut [u64; 8]) -> u32
-    ensures { λ r. ⌜ (r ≡ entryCode (readEntry (now (bytes .entry)) place)) × (now (out .exit) ≡ entryOut (readEntry (now (bytes .entry)) place)) ⌝ }
+    ensures { λ r. ⌜ (r ≡ entryCode (readEntry (now (bytes .entry)) place)) ×
+        (now (out .exit) ≡ entryOut (readEntry (now (bytes .entry)) place)) ⌝ }
 {
     let answer = body_reader::entry_at(bytes, Offset(place));
     entry_result(answer, out)
@@ -178,7 +197,8 @@ pub extern "C" fn depot_wal_entry_at(bytes: &[u8], place: usize, out: &mut [u64;
 // Reads the string at a place: where its bytes start, and their number.
 #[no_mangle]
 pub extern "C" fn depot_wal_string_at(bytes: &[u8], place: usize, out: &mut [u64; 2]) -> u32
-    ensures { λ r. ⌜ (r ≡ stringCode (readString (now (bytes .entry)) place)) × (now (out .exit) ≡ stringOut (readString (now (bytes .entry)) place)) ⌝ }
+    ensures { λ r. ⌜ (r ≡ stringCode (readString (now (bytes .entry)) place)) ×
+        (now (out .exit) ≡ stringOut (readString (now (bytes .entry)) place)) ⌝ }
 {
     let answer = body_reader::string_at(bytes, Offset(place));
     string_result(answer, out)
