@@ -1,4 +1,4 @@
--- Laws of fixed fields: length and bounds, and that reading takes back what was written.
+-- Laws of fixed fields: length and bounds, and that decoding undoes encoding.
 use Prim.Native.Nat.{ℕ, _+_, _*_, _/_, _%_, _^_, _≤_, _<_}
 use mathlib.Core.Bool.{Bool, true, false}
 use mathlib.Core.List.{List, _++_}
@@ -16,7 +16,7 @@ pub length-be8 : (x : ℕ) → length (be8 x) ≡ 8
 unfolding be4 be8
 length-be8 x = refl
 
--- where eight bytes are there, and where not
+-- with eight bytes present, and with fewer
 pub read-whole : (s : List ℕ) → 8 ≤ length s → readBe8 s ≡ readBe4 s * 2 ^ 32 + readBe4 (drop 4 s)
 unfolding readBe8
 read-whole s h = rw (le-leb 8 (length s) h, readBe8)
@@ -25,7 +25,7 @@ pub read-short : (s : List ℕ) → length s < 8 → readBe8 s ≡ 0
 unfolding readBe8
 read-short s h = rw (lt-leb 8 (length s) h, readBe8)
 
--- four bytes, taken off from the highest
+-- a number is its four bytes, split off from the highest
 joined : (a b c d u v w : ℕ) → w ≡ a + v → v ≡ b + u → u ≡ c + d → a + b + c + d ≡ w
 joined a b c d u v w p q r = omega arith
 
@@ -41,7 +41,7 @@ read-be8 x rest h =
     ∙ ap₂ (λ (a b : ℕ). a * 2 ^ 32 + b) (read-be4 (x / 2 ^ 32) (be4 x ++ rest)) (read-be4 x rest)
     ∙ omega arith
 
--- bytes below 256 say a number of 64 bits
+-- bytes below 256 encode a number of 64 bits
 read-be4-fits : (s : List ℕ) → ((i : ℕ) → getD s i 0 < 256) → readBe4 s < 2 ^ 32
 unfolding readBe4
 read-be4-fits s h = omega (arith, h 0, h 1, h 2, h 3)
@@ -57,7 +57,7 @@ read-be8-fits s h = go (leb 8 (length s)) refl
         rw (e, readBe8) (omega arith)
     go false e = rw (e, readBe8) (omega arith)
 
--- bytes that follow do not change what eight bytes say
+-- bytes that follow do not change what eight bytes encode
 append-be4 : (s t : List ℕ) → 4 ≤ length s → readBe4 (s ++ t) ≡ readBe4 s
 unfolding readBe4
 append-be4 s t h =
@@ -81,7 +81,7 @@ pub read-be4-at : (s : List ℕ) (at : ℕ)
 unfolding readBe4
 read-be4-at s at = rw (getD-drop at s 0 0, getD-drop at s 1 0, getD-drop at s 2 0, getD-drop at s 3 0, add-zero at)
 
--- bytes that are cut off behind them do not change what the first two or four say
+-- bytes cut off after them do not change what the first two or four encode
 pub read-be2-take : (n : ℕ) (w : List ℕ) → 2 ≤ n → readBe2 (take n w) ≡ readBe2 w
 unfolding readBe2
 read-be2-take n w h = rw (getD-take n w 0 0 (omega arith), getD-take n w 1 0 (omega arith))

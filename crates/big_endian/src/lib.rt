@@ -1,7 +1,7 @@
-// Fields of eight bytes, the highest first, as document 01 lays them down in a body.
+// Fixed fields of eight bytes, big-endian (FORMAT 8.1).
 //
-// No public function has a `requires`. A place is an index into the lent slice. A put that does not fit changes no byte
-// and hands back the place it was given; otherwise it hands back the place after the last byte it put.
+// No public function has a `requires`. A place is an index into the slice. A put that does not fit
+// changes no byte and returns the place given; otherwise it returns the place after its last byte.
 ghost use mathlib.Core.Path.{_≡_};
 ghost use Prim.Native.Nat.{_+_, _≤_, _<_, _^_};
 ghost use lib.ListN.{length, drop};
@@ -9,7 +9,7 @@ ghost use lib.Seq.{sets};
 ghost use Rattle.byte_copy.specs.Put.{putAt, putEnd};
 ghost use Rattle.big_endian.specs.Fixed.{be4, be8, readBe4, readBe8};
 
-// Puts the eight bytes of x at a place of buf.
+// Encodes x as eight bytes at a place of buf.
 pub fn put_be8(buf: &mut [u8], at: usize, x: u64) -> usize
     ensures { λ r. ⌜ r ≡ putEnd (now (buf .entry)) at (be8 x) ⌝ }
     ensures { λ _. ⌜ now (buf .exit) ≡ putAt (now (buf .entry)) at (be8 x) ⌝ }
@@ -24,7 +24,7 @@ pub fn put_be8(buf: &mut [u8], at: usize, x: u64) -> usize
     write_half(buf, middle, x)
 }
 
-// Writes the four lowest bytes of x at a place that has room for them; the place after them.
+// Writes the four lowest bytes of x at a place with room for them, and returns the place after.
 fn write_half(buf: &mut [u8], at: usize, x: u64) -> usize
     requires { ⌜ at + 4 ≤ length (now buf) ⌝ }
     ensures { λ r. ⌜ r ≡ at + 4 ⌝ }
@@ -40,7 +40,7 @@ fn write_half(buf: &mut [u8], at: usize, x: u64) -> usize
     at + 4
 }
 
-// Reads the eight bytes at a place of buf; 0 where fewer are there.
+// Decodes the eight bytes at a place of buf; 0 where there are fewer.
 pub fn get_be8(buf: &[u8], at: usize) -> u64
     ensures { λ r. ⌜ r ≡ readBe8 (drop at (now (buf .entry))) ⌝ }
 {
@@ -56,7 +56,7 @@ pub fn get_be8(buf: &[u8], at: usize) -> u64
     high * 0x1_0000_0000 + low
 }
 
-// Reads the four bytes at a place that has them.
+// Decodes the four bytes at a place that has them.
 fn read_half(buf: &[u8], at: usize) -> u64
     requires { ⌜ at + 4 ≤ length (now buf) ⌝ }
     ensures { λ r. ⌜ r ≡ readBe4 (drop at (now (buf .entry))) ⌝ }

@@ -1,4 +1,4 @@
--- Laws of a part of a list that is put down piece by piece.
+-- Laws of a part of a list that is stored piece by piece.
 -- Assumes nothing.
 use mathlib.Core.Path.{_≡_, refl, sym, ap, _∙_}
 use mathlib.Core.List.{List, [], _∷_}
@@ -10,7 +10,7 @@ use lib.ListN.{length, getD, take, drop, set, length-drop, length-set}
 use lib.Seq.{sets, drop-cons, drop-drop, length-take-le, set-comm, set-set, take-add}
 use Rattle.byte_copy.specs.CopiedLaws.{sets-append}
 
--- ---- a list put down over a front of it
+-- ---- a list stored over a front of it
 
 set-before : (b u : List ℕ) (i j v : ℕ) → i < j → set (sets u j b) i v ≡ sets (set u i v) j b
 set-before [] u i j v h = refl
@@ -26,7 +26,7 @@ over-front (x ∷ y) u j (suc p) (suc n) h =
     set-before (take p y) (set u j x) j (suc j) x (omega arith) ∙ rw (set-set u j x x) in
     ap (λ (w : List ℕ). sets w (suc j) (take n y)) e ∙ over-front y (set u j x) (suc j) p n (omega arith)
 
--- ---- a part put down
+-- ---- a part stored
 
 -- n + k, and n itself for no k, as the code has it
 abbrev pub place : ℕ → ℕ → ℕ
@@ -38,11 +38,11 @@ place-add n zero = sym (add-zero n)
 place-add n (suc k) = refl
 
 module _ (s : List ℕ) (from : ℕ) (t : List ℕ) (at : ℕ) where
-  -- t with the first i bytes put down
+  -- t with the first i bytes stored
   abbrev pub put : ℕ → List ℕ
   put i = sets t at (take i (drop from s))
 
-  -- and then the n behind them
+  -- and then the n after them
   pub put-more : {u : List ℕ} (i n : ℕ) → from + i ≤ length s → u ≡ put i → sets u (at + i) (take n (drop (from + i) s)) ≡ put (i + n)
   put-more i n h e =
       let l : length (take i (drop from s)) ≡ i = length-take-le i (drop from s) (omega (arith, length-drop from s)) in
@@ -51,7 +51,7 @@ module _ (s : List ℕ) (from : ℕ) (t : List ℕ) (at : ℕ) where
   pub put-byte : {u : List ℕ} (i : ℕ) → from + i < length s → u ≡ put i → set u (at + i) (getD s (from + i) 0) ≡ put (i + 1)
   put-byte i h e = rw (drop-cons s (from + i) 0 h) at (put-more i 1 (omega arith) e)
 
-  -- after the first m of n bytes the last j, though some of them stand there already
+  -- after the first m of n bytes the last j, though some of them are stored already
   pub put-last : {u : List ℕ} (n j m : ℕ) → j ≤ n → n - j ≤ m → m ≤ n → from + n ≤ length s
       → u ≡ put m
       → sets u (at + (n - j)) (take j (drop (from + (n - j)) s)) ≡ put n

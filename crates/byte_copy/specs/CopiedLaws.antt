@@ -1,4 +1,5 @@
--- Laws of copying: where both slices are long enough, and where one is not; of bytes that are put down one after another; and of a part of a list.
+-- Laws of copying: where both slices are long enough, and where one is not; of bytes stored one
+-- after another; and of a part of a list.
 -- Assumes nothing.
 use Prim.Native.Nat.{ℕ, suc, _+_, _≤_, _<_}
 use mathlib.Core.Bool.{Bool, true, false}

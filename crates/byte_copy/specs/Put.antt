@@ -1,4 +1,4 @@
--- Defines what putting bytes into a lent slice leaves there, and which place it hands back.
+-- Defines what a slice holds after bytes are stored in it, and the place that the call returns.
 -- To be believed. Assumes nothing.
 use Prim.Native.Nat.{ℕ, _+_}
 use mathlib.Core.Bool.{true, false}

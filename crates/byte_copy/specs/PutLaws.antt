@@ -1,4 +1,4 @@
--- Laws of putting: where it fits and where it does not.
+-- Laws of storing bytes in a slice: where they fit and where they do not.
 use Prim.Native.Nat.{ℕ, _+_, _≤_, _<_}
 use mathlib.Core.List.{List}
 use mathlib.Core.Path.{_≡_}
@@ -17,7 +17,7 @@ module _ (d : List ℕ) (at : ℕ) (vs : List ℕ) where
   unfolding putEnd
   end-fits h = rw (le-leb (at + length vs) (length d) h, putEnd)
 
-  -- a put that does not fit changes nothing, and hands back the place it was given
+  -- a put that does not fit changes nothing, and returns the place given
   pub put-not : length d < at + length vs → putAt d at vs ≡ d
   unfolding putAt
   put-not h = rw (lt-leb (at + length vs) (length d) h, putAt)

@@ -1,4 +1,5 @@
-// Copies bytes from one lent slice to another. Its specs also say what a put of bytes leaves in a lent slice, for every crate that puts some.
+// Copies bytes from one slice to another. The specs also say what a slice holds after bytes are
+// stored in it, for every crate that stores some.
 ghost use mathlib.Core.Path.{_≡_};
 ghost use Prim.Native.Nat.{_+_, _-_, _*_, _/_, _%_, _≤_, _<_};
 ghost use lib.ListN.{length, take, drop};
@@ -8,7 +9,8 @@ ghost use Rattle.byte_copy.specs.Copied.{copied};
 // The bytes that `copy16` copies at once.
 const CHUNK: usize = 16;
 
-// `count` bytes of `source` from `from` on, put down in `to` at `at`; where either slice is too short for that, nothing changes.
+// Copies `count` bytes of `source`, from `from` on, to `to` at `at`. Where either slice is too
+// short for that, nothing changes.
 pub fn copy(source: &[u8], from: usize, count: usize, to: &mut [u8], at: usize)
     ensures { λ r. ⌜ now (to .exit) ≡ copied (now (source .entry)) from count (now (to .entry)) at ⌝ }
 {
@@ -55,7 +57,8 @@ fn copy_long(source: &[u8], from: usize, count: usize, to: &mut [u8], at: usize)
     copy16(source, last_from, to, last_at);
 }
 
-// Enough of the front that the last chunk completes it. Up to three chunks go without a loop, whose set-up would take longer than they do.
+// Enough of the front that the last chunk completes it. Up to three chunks go without a loop: to
+// set one up would take longer than to copy them.
 fn copy_front(source: &[u8], from: usize, count: usize, to: &mut [u8], at: usize)
     requires { ⌜ (16 ≤ count) × (from + count ≤ length (now source)) × (at + count ≤ length (now to)) ⌝ }
     ensures { λ r. ⌜ sets (now (to .exit)) (at + (count - 16)) (take 16 (drop (from + (count - 16)) (now (source .entry)))) ≡ sets (now (to .entry)) at (take count (drop from (now (source .entry)))) ⌝ }
@@ -71,8 +74,8 @@ fn copy_front(source: &[u8], from: usize, count: usize, to: &mut [u8], at: usize
     }
 }
 
-// One chunk, and behind it those that start at a multiple of 16 in `to`: a store that lies across two lines of the cache takes longer, and a slice
-// mostly starts at a multiple of 16 in memory.
+// One chunk, then whole chunks from the next multiple of 16 in `to` on. A store across two cache
+// lines takes longer, and a slice mostly starts at a multiple of 16 in memory.
 fn copy_aligned(source: &[u8], from: usize, count: usize, to: &mut [u8], at: usize)
     requires { ⌜ (48 < count) × (from + count ≤ length (now source)) × (at + count ≤ length (now to)) ⌝ }
     ensures { λ r. ⌜ now (to .exit) ≡ sets (now (to .entry)) at (take (16 - at % 16 + (count - (16 - at % 16)) / 16 * 16) (drop from (now (source .entry)))) ⌝ }
@@ -110,8 +113,8 @@ fn copy32(source: &[u8], from: usize, to: &mut [u8], at: usize)
     copy16(source, next_from, to, next_at);
 }
 
-// One chunk. All loads stand before all stores: the compiler then makes one wide load and one wide store of them, though it cannot know that
-// the slices are apart.
+// One chunk. All loads come before all stores: the compiler then makes one wide load and one wide
+// store of them, though it cannot know that the slices do not overlap.
 fn copy16(source: &[u8], from: usize, to: &mut [u8], at: usize)
     requires { ⌜ (from + 16 ≤ length (now source)) × (at + 16 ≤ length (now to)) ⌝ }
     ensures { λ r. ⌜ now (to .exit) ≡ sets (now (to .entry)) at (take 16 (drop from (now (source .entry)))) ⌝ }

@@ -1,5 +1,6 @@
-// CRC-32C (Castagnoli). Short data goes eight bytes at a time by a table: the small one of this crate, or a larger one that the caller
-// fills once and lends. Long data is folded by two sparse multiples of the polynomial, one after the other, which needs no table.
+// CRC-32C (Castagnoli, FORMAT 3). Short data goes eight bytes at a time by a table: the small one
+// of this crate, or a larger one that the caller fills once. Long data is folded by two sparse
+// multiples of the polynomial, one after the other, which needs no table.
 mod nibbles;
 
 use numbers::smaller;
@@ -14,10 +15,10 @@ ghost use Rattle.crc32c_format.specs.Table.{nibbleTable};
 ghost use Rattle.crc32c_format.specs.TableSum.{lookUp2, lookUp4, tableStep1, tableStep4, tableStep8, steps, eightsEnd, foursEnd, tableRegister, sumBy};
 ghost use Rattle.crc32c_format.specs.Method.Fold.{onto290, onto130, taps, Folded, Slid, Cleared, Rest};
 
-// Lent where the caller lends none: too short to be used.
+// What a caller without a table passes: too short to be used.
 pub const NO_TABLE: [u32; 1] = [0];
 
-// From so many bytes on the data is folded, which needs no table.
+// Data of this length or more is folded, which needs no table.
 const LONG: usize = 512;
 
 // ---- bytes as a number, the first lowest
@@ -38,7 +39,7 @@ fn load4(s: &[u8], at: usize) -> u32
 
 // ---- by the small table
 
-// What is left of four bits, and of one, two and four bytes, after 4 * k bits more than theirs.
+// Four bits, and one, two and four bytes, after their own bit steps and 4 * k more.
 fn left_half(t: &[u32; 256], k: usize, x: usize) -> u32
     requires { ⌜ (now t ≡ nibbleTable) × (k < 16) × (x < 16) ⌝ }
     ensures { λ r. ⌜ r ≡ bitSteps (4 + 4 * k) x ⌝ }
@@ -83,7 +84,8 @@ fn step4(t: &[u32; 256], state: u32, s: &[u8], at: usize) -> u32
     left4(t, 0, state ^ load4(s, at))
 }
 
-// What is left of four bytes that no register meets. Taken one by one, they need no shifts and fewer masks.
+// Four bytes that are not xored with the register, after their 32 bit steps. Looked up one by one,
+// they need no shifts and fewer masks.
 fn four_alone(t: &[u32; 256], s: &[u8], at: usize) -> u32
     requires { ⌜ (now t ≡ nibbleTable) × (at + 4 ≤ length (now s)) ⌝ }
     ensures { λ r. ⌜ r ≡ bitSteps 32 (littleEndian (take 4 (drop at (now (s .entry))))) ⌝ }
@@ -104,7 +106,8 @@ fn step8(t: &[u32; 256], state: u32, s: &[u8], at: usize) -> u32
     four_alone(t, s, next) ^ left4(t, 8, state ^ load4(s, at))
 }
 
-// The register after as many eights as there are, after four more where there are four, and after the rest.
+// The register after as many eights as there are, after four more where four are left, and after
+// the rest.
 fn eights(t: &[u32; 256], state: u32, s: &[u8]) -> u32
     requires { ⌜ now t ≡ nibbleTable ⌝ }
     ensures { λ r. ⌜ register r (drop (eightsEnd (now (s .entry))) (now (s .entry))) ≡ register state (now (s .entry)) ⌝ }
@@ -156,8 +159,9 @@ fn register_by_nibbles(t: &[u32; 256], state: u32, s: &[u8]) -> u32
     singles(t, b, s)
 }
 
-// The register after the bytes of a slice, for short data. A use of a constant array stores it whole on the stack, so the small table is
-// named in this one place, and lent from there. `&s[0..]` hands on the slice's address and length; `s` would have the pair copied in memory first.
+// The register after the bytes of a slice, for short data. Each use of a constant array stores it
+// whole on the stack, so the small table is named in this one function and passed on from here.
+// `&s[0..]` passes address and length in registers; `s` would copy the pair in memory first.
 fn short(state: u32, s: &[u8]) -> u32
     ensures { λ r. ⌜ r ≡ register state (now (s .entry)) ⌝ }
 {
@@ -167,11 +171,11 @@ fn short(state: u32, s: &[u8]) -> u32
 
 // ---- by folding
 
-// The buffer holds the window, which is the last 290 bytes of what was folded, and room for 2,048 more. It need not hold the whole message:
-// what is to come depends on the window alone.
+// The buffer holds the window, which is the last 290 bytes of what was folded, and room for 2,048
+// more. It need not hold the whole message: what is to come depends on the window alone.
 
-// Folds the first n bytes of m into y, behind the window. No byte is read again before 154 bytes more are stored; from 128 on, the compiler
-// takes 16 at once.
+// Folds the first n bytes of m into y, after the window. No byte is read again before 154 more are
+// stored; from 128 on, the compiler folds 16 bytes at once.
 fn fold(y: &mut [u8], m: &[u8], n: usize)
     requires { ⌜ (n ≤ length (now m)) × (n + 290 ≤ length (now y)) ⌝ }
     ensures { λ r. ⌜ Folded onto290 (now (m .entry)) (now (y .entry)) (now (y .exit)) n ⌝ }
@@ -183,7 +187,7 @@ fn fold(y: &mut [u8], m: &[u8], n: usize)
     }
 }
 
-// The window, moved to the front of y after n bytes more were folded.
+// Moves the window to the front of y after n bytes more were folded.
 fn slide(y: &mut [u8], n: usize)
     requires { ⌜ n + 290 ≤ length (now y) ⌝ }
     ensures { λ r. ⌜ Slid onto290 (now (y .entry)) (now (y .exit)) n ⌝ }
@@ -195,7 +199,7 @@ fn slide(y: &mut [u8], n: usize)
     }
 }
 
-// The 136 bytes behind the window become zero: `rest` reads that far, and no byte of the message is to come there.
+// Sets the 136 bytes after the window to zero: `rest` reads that far, and nothing is folded there.
 fn clear(y: &mut [u8])
     requires { ⌜ 426 ≤ length (now y) ⌝ }
     ensures { λ r. ⌜ Cleared onto290 (now (y .entry)) (now (y .exit)) ⌝ }
@@ -207,7 +211,7 @@ fn clear(y: &mut [u8])
     }
 }
 
-// The last 290 bytes of the message, with what the window puts onto them.
+// The last 290 bytes of the message, with what the window xors into them.
 fn rest(r: &mut [u8], y: &[u8], m: &[u8])
     requires { ⌜ (length (now r) ≡ 290) × (length (now m) ≡ 290) × (426 ≤ length (now y)) ⌝ }
     ensures { λ q. ⌜ Rest onto290 (now (m .entry)) (now (y .entry)) (now (r .exit)) ⌝ }
@@ -219,10 +223,11 @@ fn rest(r: &mut [u8], y: &[u8], m: &[u8])
     }
 }
 
-// The 290 bytes that this leaves are folded again, onto their last 130. The second multiple has more terms, so a byte costs more than in the first fold,
-// but less than by the table. The buffer holds them all and ends in zeros, so no window slides and nothing is cleared.
+// The 290 bytes that this leaves are folded again, onto their last 130. The second multiple has
+// more terms, so a byte costs more than in the first fold, but less than by the table. The buffer
+// holds them all and ends in zeros, so no window slides and nothing is cleared.
 
-// What earlier bytes put onto the byte at i, for both loops: the compiler writes it into each.
+// What earlier bytes xor into the byte at i, for both loops: the compiler inlines it into each.
 fn taps130(y: &[u8], i: usize) -> u8
     requires { ⌜ i + 64 < length (now y) ⌝ }
     ensures { λ r. ⌜ r ≡ taps onto130 (now (y .entry)) i ⌝ }
@@ -230,7 +235,7 @@ fn taps130(y: &[u8], i: usize) -> u8
     y[i + 64] ^ y[i + 63] ^ y[i + 60] ^ y[i + 33] ^ y[i + 32] ^ y[i + 25] ^ y[i]
 }
 
-// Folds the first n bytes of m into y, behind the window.
+// Folds the first n bytes of m into y, after the window.
 fn fold_again(y: &mut [u8], m: &[u8], n: usize)
     requires { ⌜ (n ≤ length (now m)) × (n + 130 ≤ length (now y)) ⌝ }
     ensures { λ r. ⌜ Folded onto130 (now (m .entry)) (now (y .entry)) (now (y .exit)) n ⌝ }
@@ -242,7 +247,7 @@ fn fold_again(y: &mut [u8], m: &[u8], n: usize)
     }
 }
 
-// The last 130 of them, with what the window puts onto them.
+// The last 130 of the 290 bytes, with what the window xors into them.
 fn rest_again(r: &mut [u8], y: &[u8], m: &[u8])
     requires { ⌜ (length (now r) ≡ 130) × (length (now m) ≡ 130) × (194 ≤ length (now y)) ⌝ }
     ensures { λ q. ⌜ Rest onto130 (now (m .entry)) (now (y .entry)) (now (r .exit)) ⌝ }
@@ -259,7 +264,7 @@ fn after_rest(m: &[u8]) -> u32
     requires { ⌜ length (now m) ≡ 290 ⌝ }
     ensures { λ r. ⌜ r ≡ register 0 (now (m .entry)) ⌝ }
 {
-    // 160 bytes behind a window of 130, and 64 that stay zero: `rest_again` reads that far.
+    // 160 bytes after a window of 130, and 64 that stay zero: `rest_again` reads that far.
     let mut y = [0u8; 354];
     fold_again(&mut y, m, 160);
     let mut r = [0u8; 130];
@@ -267,7 +272,8 @@ fn after_rest(m: &[u8]) -> u32
     short(0, &r)
 }
 
-// The register after the bytes of a slice, for long data: all but the last 290 are folded onto those, and those onto their last 130.
+// The register after the bytes of a slice, for long data: all but the last 290 bytes are folded
+// onto those, and those onto their last 130.
 fn long(state: u32, m: &[u8]) -> u32
     requires { ⌜ 290 ≤ length (now m) ⌝ }
     ensures { λ r. ⌜ r ≡ register state (now (m .entry)) ⌝ }
@@ -302,8 +308,8 @@ pub fn update(state: u32, bytes: &[u8]) -> u32
     }
 }
 
-// The checksum of long data. It has several callers, which keeps the compiler from merging it, with its buffer, into the path of short data;
-// `&bytes[0..]`, as in `short`, has them pass address and length.
+// The checksum of long data. It has several callers, which keeps the compiler from merging it, with
+// its buffer, into the path of short data. `&bytes[0..]`: see `short`.
 fn long_sum(bytes: &[u8]) -> u32
     requires { ⌜ 290 ≤ length (now bytes) ⌝ }
     ensures { λ r. ⌜ r ≡ crc32c (now (bytes .entry)) ⌝ }
@@ -322,9 +328,9 @@ pub fn checksum(bytes: &[u8]) -> u32
     }
 }
 
-// ---- by a lent table
+// ---- by a caller's table
 
-// What two bytes and four leave by the rows from k on.
+// Two bytes and four, looked up in the rows from k on.
 fn look_up2(t: &[u32], k: usize, x: u16) -> u32
     requires { ⌜ (2048 ≤ length (now t)) × (k < 7) ⌝ }
     ensures { λ r. ⌜ r ≡ lookUp2 (now (t .entry)) k x ⌝ }
@@ -367,7 +373,8 @@ fn table_step8(t: &[u32], state: u32, s: &[u8], at: usize) -> u32
     look_up4(t, 0, load4(s, next)) ^ look_up4(t, 4, state ^ load4(s, at))
 }
 
-// The register after as many eights as there are, after four more where there are four, and after the rest.
+// The register after as many eights as there are, after four more where four are left, and after
+// the rest.
 fn table_eights(t: &[u32], state: u32, s: &[u8]) -> u32
     requires { ⌜ 2048 ≤ length (now t) ⌝ }
     ensures { λ r. ⌜ r ≡ steps 8 (tableStep8 (now (t .entry))) (length (now (s .entry)) / 8) state (now (s .entry)) ⌝ }
@@ -420,8 +427,8 @@ fn table_sum(t: &[u32], s: &[u8]) -> u32
     table_singles(t, b, s, past_fours) ^ 0xFFFF_FFFF
 }
 
-// The same as one piece of machine code: each function below it has one caller and is inlined, and `&s[0..]`, as in `short`, has the slices
-// passed in registers. To hand them on in memory would take longer than the sum.
+// The same as one piece of machine code: the functions that it calls are inlined, and `&s[0..]` has
+// the slices passed in registers. To pass them in memory would take longer than the sum.
 fn sum_by_table(t: &[u32], s: &[u8]) -> u32
     requires { ⌜ 2048 ≤ length (now t) ⌝ }
     ensures { λ r. ⌜ r ≡ bitXor (tableRegister (now (t .entry)) 0xFFFFFFFF (now (s .entry))) 0xFFFFFFFF ⌝ }
@@ -429,7 +436,7 @@ fn sum_by_table(t: &[u32], s: &[u8]) -> u32
     table_sum(&t[0..], &s[0..])
 }
 
-// The checksum by a table that the caller lends; one of fewer than 2,048 entries counts as none.
+// The checksum by a caller-owned table; one of fewer than 2,048 entries counts as none.
 pub fn sum(table: &[u32], bytes: &[u8]) -> u32
     ensures { λ r. ⌜ r ≡ sumBy (now (table .entry)) (now (bytes .entry)) ⌝ }
 {

@@ -1,4 +1,4 @@
-// The small table: the entry at 16 * k + x is what is left of the four bits x after 4 * (k + 1) bits.
+// The small table: the entry at 16 * k + x is x, which has four bits, after 4 * (k + 1) bit steps.
 pub const NIBBLES: [u32; 256] = [
     0x00000000,
     0x105EC76F,

@@ -1,4 +1,5 @@
--- Definition: a list of bytes as a number, the first byte lowest. No two bytes have a bit in common, so xor joins them as a sum does.
+-- Definition: a list of bytes as a number, the first byte lowest. No two bytes have a bit in
+-- common, so xor joins them as a sum does.
 -- To be believed. Assumes nothing.
 use mathlib.Core.List.{List, [], _∷_}
 use Prim.Native.Nat.{ℕ, _*_}

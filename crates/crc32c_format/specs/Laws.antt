@@ -1,5 +1,5 @@
--- Laws that other crates cite: the register goes on from where it is; by a table too short to be used, and by `sliceTable`, the lent sum
--- is CRC-32C; a slice handed on whole.
+-- Laws that other crates cite: data may come in parts; by a table too short to be used, and by
+-- `sliceTable`, the sum is CRC-32C; a slice passed on whole.
 use mathlib.Core.Path.{_≡_, ap, _∙_}
 use mathlib.Core.List.{List, [], _++_}
 use mathlib.Core.Logic.{⊎-elim}
@@ -17,7 +17,7 @@ use Rattle.crc32c_format.specs.Method.Lists.{lt-or-ge}
 use Rattle.crc32c_format.specs.Method.Tables.{length-tableOf}
 use Rattle.crc32c_format.specs.Method.Slicing.{tableRegister-slices}
 
--- updating by two parts is updating by both at once
+-- the register after two parts is the register after both at once
 pub register-append : (c : ℕ) (xs ys : List ℕ) → register c (xs ++ ys) ≡ register (register c xs) ys
 register-append = steps.register-append
 
@@ -35,11 +35,11 @@ unfolding sumBy
 sumBy-long t d hd =
     ⊎-elim (sumBy-short t d) (λ (ht : 2048 ≤ length t). rw (le-ltb (length t) 2048 ht, sumBy, le-ltb (length d) 512 hd)) (lt-or-ge (length t) 2048)
 
--- none lent
+-- no table
 pub sumBy-none : (d : List ℕ) → sumBy [] d ≡ crc32c d
 sumBy-none d = sumBy-short [] d (omega arith)
 
--- the crate's own table
+-- the table that `crc32c_table::fill_table` fills
 pub sumBy-slices : (d : List ℕ) → ((k : ℕ) → getD d k 0 < 256) → sumBy sliceTable d ≡ crc32c d
 unfolding crc32c
 sumBy-slices d h =
@@ -49,6 +49,6 @@ sumBy-slices d h =
     (sumBy-long sliceTable d)
     (lt-or-ge (length d) 512)
 
--- a slice s that is handed on as `&s[0..]`
+-- a slice s that is passed on as `&s[0..]`
 pub whole-part : (s : List ℕ) → take (length s - 0) (drop 0 s) ≡ s
 whole-part s = let n : length s - 0 ≡ length s = omega arith in rw n (take-length s)

@@ -9,7 +9,7 @@ unfoldable pub upFrom : ℕ → ℕ → List ℕ
 upFrom a zero = []
 upFrom a (suc n) = a ∷ upFrom (suc a) n
 
--- rows of 2 ^ w entries: the entry x of row k is what is left of the w bits x after w * (k + 1) bits
+-- rows of 2 ^ w entries: the entry x of row k is x after w * (k + 1) bit steps
 unfoldable pub tableEntry : ℕ → ℕ → ℕ
 tableEntry w i = bitSteps (w * (i / 2 ^ w + 1)) (i % 2 ^ w)
 
@@ -17,7 +17,7 @@ tableEntry w i = bitSteps (w * (i / 2 ^ w + 1)) (i % 2 ^ w)
 unfoldable pub tableOf : ℕ → ℕ → List ℕ
 tableOf w n = map (tableEntry w) (upFrom 0 n)
 
--- the table that a caller lends, for slicing by eight: eight rows, one entry for each byte
+-- the table that the caller fills, for slicing by eight: eight rows, one entry for each byte
 abbrev pub sliceTable : List ℕ
 sliceTable = tableOf 8 2048
 

@@ -1,5 +1,5 @@
--- Definition: the checksum by a table that the caller lends. It is defined for every table, and by `sliceTable`, or by one too short
--- to be used, it is CRC-32C (Laws.antt).
+-- Definition: the checksum by a caller-owned table. It is defined for every table; by `sliceTable`,
+-- or by one too short to be used, it is CRC-32C (Laws.antt).
 -- To be believed. Assumes nothing.
 use mathlib.Core.List.{List}
 use mathlib.Core.Bool.{true, false}
@@ -10,7 +10,8 @@ use lib.Dec.{ltb}
 use Rattle.crc32c_format.specs.Crc.{crc32c}
 use Rattle.crc32c_format.specs.Bytes.{littleEndian}
 
--- what two bytes, as the number x, leave by the rows k and k + 1 of the table t: the lower byte leaves first, so it has the later row
+-- two bytes, as the number x, looked up in the rows k and k + 1 of the table t: the lower byte
+-- leaves the register first, so it has the later row
 unfoldable pub lookUp2 : List ℕ → ℕ → ℕ → ℕ
 lookUp2 t k x = bitXor (getD t ((k + 1) * 256 + x % 256) 0) (getD t (k * 256 + x / 256) 0)
 
@@ -47,7 +48,7 @@ tableRegister t c s =
     let four = steps 4 (tableStep4 t) (length s % 8 / 4) eights (drop (eightsEnd s) s) in
     steps 1 (tableStep1 t) (length s % 4) four (drop (foursEnd s) s)
 
--- a table of fewer than eight rows counts as none; data of 512 bytes and more goes by a method that needs no table
+-- a table of fewer than eight rows counts as none; data of 512 bytes and more needs no table
 unfoldable pub sumBy : List ℕ → List ℕ → ℕ
 sumBy t d =
     elim (ltb (length t) 2048) [

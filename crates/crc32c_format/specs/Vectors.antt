@@ -1,4 +1,5 @@
--- Examples: two of RFC 3720's, appendix B.4, and the usual check value. The program `vectors` runs all of them.
+-- Examples: the empty input, two of RFC 3720's vectors (appendix B.4), and the usual check value.
+-- The program `test_vectors` runs all of RFC 3720's.
 use mathlib.Core.Path.{_≡_, refl}
 use mathlib.Core.List.{[], _∷_}
 use lib.ListN.{replicate}

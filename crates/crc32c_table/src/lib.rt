@@ -1,4 +1,4 @@
-// The table that a caller fills once and lends, for the checksum of short data (crate crc32c).
+// Fills the table that a caller keeps for the checksum of short data (crate `crc32c`).
 ghost use mathlib.Core.Path.{_≡_};
 ghost use lib.ListN.{length};
 ghost use Rattle.crc32c_format.specs.Crc.{bitStep, bitSteps};
@@ -23,7 +23,7 @@ fn byte_steps(x: u32) -> u32
     c
 }
 
-// Row 0: what is left of each byte after its own eight bits.
+// Row 0: each byte after its own eight bit steps.
 fn fill_first_row(table: &mut [u32])
     requires { ⌜ length (now table) ≡ 2048 ⌝ }
     ensures { λ r. ⌜ Filled (now (table .exit)) 256 ⌝ }
@@ -35,7 +35,7 @@ fn fill_first_row(table: &mut [u32])
     }
 }
 
-// Each later entry is eight bits on from the one before it in its column.
+// Each later entry is eight bit steps on from the one above it.
 fn fill_other_rows(table: &mut [u32])
     requires { ⌜ Filled (now table) 256 ⌝ }
     ensures { λ r. ⌜ Filled (now (table .exit)) 2048 ⌝ }
@@ -49,7 +49,7 @@ fn fill_other_rows(table: &mut [u32])
     }
 }
 
-// Fills the table that a caller lends.
+// Fills the caller's table.
 pub fn fill_table(table: &mut [u32; 2048])
     ensures { λ r. ⌜ now (table .exit) ≡ sliceTable ⌝ }
 {

@@ -1,4 +1,5 @@
-// The checksum itself, for callers that carry it elsewhere, and the table that makes short data fast.
+// The checksum itself (FORMAT 3), for callers that store it elsewhere, and the table that makes
+// short data fast.
 ghost use mathlib.Core.Path.{_≡_};
 ghost use Rattle.crc32c_format.specs.Crc.{crc32c};
 ghost use Rattle.crc32c_format.specs.Table.{sliceTable};
@@ -20,7 +21,7 @@ pub extern "C" fn depot_wal_table(table: &mut [u32; 2048])
     crc32c_table::fill_table(table);
 }
 
-// The checksum by a lent table; with the table that `depot_wal_table` fills it is CRC-32C.
+// The checksum by a caller's table; with the table that `depot_wal_table` fills it is CRC-32C.
 #[no_mangle]
 pub extern "C" fn depot_wal_crc32c_with_table(table: &[u32; 2048], bytes: &[u8]) -> u32
     ensures { λ r. ⌜ r ≡ sumBy (now (table .entry)) (now (bytes .entry)) ⌝ }

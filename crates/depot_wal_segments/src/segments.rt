@@ -1,4 +1,4 @@
-// Reading and writing one segment.
+// The C calls that read and write one segment.
 ghost use mathlib.Core.Path.{_≡_};
 ghost use Rattle.segment_format.specs.Calls.{reader, writer};
 ghost use Rattle.segment_format.specs.Sums.{crcSum, tableSum};
@@ -7,8 +7,9 @@ use depot_wal_results::read_result;
 use depot_wal_results::write_result;
 use wal_types::Offset;
 
-// A read, and its answer passed on, for the calls with a table and without. Here it ends in numbers: an answer handed to another function
-// would be stored in parts and loaded whole, which stalls. `&x[0..]` hands a slice on by its address and length.
+// Reads, and turns the answer into numbers, for the calls with a table and without. It is done here
+// because an answer passed on to another function would be stored in parts and loaded whole, which
+// stalls. `&x[0..]` passes a slice's address and length in registers.
 fn read_to_out(
     table: &[u32],
     segment: &[u8],
@@ -25,7 +26,7 @@ fn read_to_out(
     read_result(answer, out)
 }
 
-// A write, likewise.
+// Writes, likewise.
 fn write_to_out(
     table: &[u32],
     segment: &mut [u8],
@@ -47,7 +48,7 @@ fn write_to_out(
     write_result(answer, place, out)
 }
 
-// Writes a record at a place.
+// Writes a record at a place (FORMAT 4 and 5).
 #[no_mangle]
 pub extern "C" fn depot_wal_write(
     segment: &mut [u8],
@@ -63,7 +64,7 @@ pub extern "C" fn depot_wal_write(
     write_to_out(&crc32c::NO_TABLE, segment, place, record, out)
 }
 
-// Reads the record at a place into the buffer.
+// Reads the record at a place into the buffer (FORMAT 6).
 #[no_mangle]
 pub extern "C" fn depot_wal_read(
     segment: &[u8],
@@ -79,7 +80,7 @@ pub extern "C" fn depot_wal_read(
     read_to_out(&crc32c::NO_TABLE, segment, place, buffer, out)
 }
 
-// `depot_wal_write` with the checksum's table lent.
+// `depot_wal_write` with the checksum by the caller's table.
 #[no_mangle]
 pub extern "C" fn depot_wal_write_with_table(
     table: &[u32; 2048],
@@ -96,7 +97,7 @@ pub extern "C" fn depot_wal_write_with_table(
     write_to_out(table, segment, place, record, out)
 }
 
-// `depot_wal_read` with the checksum's table lent.
+// `depot_wal_read` with the checksum by the caller's table.
 #[no_mangle]
 pub extern "C" fn depot_wal_read_with_table(
     table: &[u32; 2048],

@@ -1,8 +1,8 @@
-// Lists a segment from standard input: document 01, "The listing".
+// Lists a segment from standard input (FORMAT 15).
 fn main() {
     let mut segment = [0u8; 65536];
     let got = io::read_full(0, &mut segment);
-    // Whether more was left.
+    // Whether more bytes follow.
     let mut rest = [0u8; 1];
     let more = io::read_full(0, &mut rest);
     if 0 < more {

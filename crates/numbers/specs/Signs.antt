@@ -1,4 +1,5 @@
--- Laws of signed numbers in code: by its sign a number is its magnitude, or −1 less it; and what −1 − x gives.
+-- Laws of signed numbers in code: a number is m or −1 − m, by its sign, m being its magnitude; and
+-- what −1 − x is.
 -- Assumes nothing.
 use Prim.Native.Nat.{ℕ, zero, suc}
 use mathlib.Core.Bool.{true, false}

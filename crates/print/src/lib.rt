@@ -1,5 +1,5 @@
 // Words of an output line, on standard output. No contract can say what is written, and these
-// functions answer nothing: what they print is tested through the programs that call them.
+// functions return nothing: what they print is tested through the programs that call them.
 use numbers::wide64;
 
 pub fn text(bytes: &[u8]) {
@@ -24,7 +24,7 @@ pub fn field(n: u64) {
     number(n);
 }
 
-// A signed number, given by its zigzag: the sign is the lowest bit, the magnitude is above it.
+// A signed number, given by its zigzag z: z / 2, or -(z / 2 + 1) where z is odd.
 pub fn signed(zigzag: u64) {
     let magnitude = zigzag / 2;
     if zigzag % 2 == 0 {
@@ -35,7 +35,7 @@ pub fn signed(zigzag: u64) {
     }
 }
 
-// The first n bytes of a slice, two digits each.
+// The first n bytes of a slice, two hexadecimal digits each.
 pub fn bytes(s: &[u8], n: usize) {
     let mut i = 0;
     while i < s.len() {

@@ -1,4 +1,4 @@
-// The lines on standard output.
+// The lines that the program prints.
 use print::field;
 use print::text;
 use wal_types::Offset;

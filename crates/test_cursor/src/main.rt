@@ -1,15 +1,18 @@
-// Writes eight records into a segment of four pages and reads them by the reader: once the whole segment, and once its first
-// 100,000 bytes, which end inside the last fragment of the sixth record.
+// Writes eight records into a segment of four pages and reads them with the cursor: once the whole
+// segment, and once its first 100,000 bytes, which end in the last fragment of the sixth record.
 //
-// The records have 0, 1, 37, 32698, 32754, 40000, 25508 and 0 bytes; byte i of a record is i modulo 256. Each is written at the place that the
-// write before handed back. Behind the fourth 4 bytes are left in its page, which are filler; behind the fifth 7, so the sixth begins with a
-// fragment of length 0; and the last ends where the segment ends.
+// The records have 0, 1, 37, 32698, 32754, 40000, 25508 and 0 bytes; byte i of a record is i modulo
+// 256. Each is written at the place that the write before returned. After the fourth 4 bytes are
+// left in its page, which are filler; after the fifth 7, so the sixth begins with a fragment of
+// length 0; and the last ends where the segment ends.
 //
-// For each reading it prints a line `segment N`, where N is the length in bytes, and then a line for each of ten reads:
+// For each reading it prints a line `segment N`, where N is the length in bytes, and then a line
+// for each of ten reads:
 //     record START LENGTH NEXT
 //     end
 //     refused NUMBER PLACE
-// All numbers are decimal, with one space before each. After the first read that yields no record the others answer the same.
+// All numbers are decimal, with one space before each. After the first read that gives no record
+// the others answer the same.
 mod lines;
 
 use segment_format::ReadAnswer;
@@ -20,7 +23,7 @@ const RECORDS: usize = 8;
 
 const LENGTHS: [usize; 8] = [0, 1, 37, 32698, 32754, 40000, 25508, 0];
 
-// One read for each record, one that finds no more, and one that finds the same again.
+// One read for each record, one that finds no more, and one that answers the same again.
 const READS: usize = 10;
 
 const CUT: usize = 100000;
@@ -55,7 +58,8 @@ fn write_records(segment: &mut [u8], bytes: &[u8]) {
     }
 }
 
-// Writes the first `length` bytes as a record. The place for the next write; where there is no room, the same.
+// Writes the first `length` bytes as a record, and returns the place for the next write; where
+// there is no room, the place given.
 fn write_record(segment: &mut [u8], place: Offset, bytes: &[u8], length: usize) -> Offset {
     if bytes.len() < length {
         return place;
@@ -86,7 +90,7 @@ fn read_records(segment: &[u8], buffer: &mut [u8]) {
     }
 }
 
-// Prints what a read answered, and hands back the place for the next.
+// Prints what a read answered, and returns the place for the next.
 fn print_step(step: segment_cursor::Advance) -> Offset {
     let answer = step.answer;
     match answer {

@@ -1,4 +1,4 @@
--- A count of bytes that a segment has room for. What is malformed has no count.
+-- A count of bytes that a segment has room for; no condition where the input is malformed.
 -- Assumes nothing.
 use Prim.Native.Nat.{ℕ, _≤_}
 use Rattle.test_damage.specs.declared.items.Count.{Count}

@@ -1,5 +1,5 @@
 // The bytes of a case. An item, `HH` or `HH*N`, is taken with the byte that ends it: a space, or
-// the newline behind the last.
+// the newline after the last.
 ghost use Prim.Native.Nat.{_≤_};
 ghost use lib.ListN.{length};
 ghost use Rattle.test_damage.specs.Fits.{Fits};
@@ -15,7 +15,7 @@ pub(crate) enum Count {
     Malformed,
 }
 
-// Puts the bytes of all items into the segment. Their number; too many are malformed too.
+// Stores the bytes of all items in the segment and returns their number; too many are malformed.
 pub(crate) fn expand(items: &[u8], segment: &mut [u8]) -> Count
     ensures { λ r. ⌜ Fits r (length (now (segment .entry))) ⌝ }
 {
@@ -35,7 +35,7 @@ pub(crate) fn expand(items: &[u8], segment: &mut [u8]) -> Count
     Count::Of(used)
 }
 
-// Whether the newline is there.
+// Whether the items end with a newline.
 fn ends(items: &[u8]) -> bool {
     if items.len() == 0 {
         return false;
@@ -44,7 +44,7 @@ fn ends(items: &[u8]) -> bool {
     items[last] == b'\n'
 }
 
-// Puts the bytes of one item at a place of the segment. The place behind them.
+// Stores the bytes of one item at a place of the segment, and returns the place after them.
 fn put(item: &[u8], segment: &mut [u8], at: usize) -> Count
     requires { ⌜ at ≤ length (now segment) ⌝ }
     ensures { λ r. ⌜ Fits r (length (now (segment .entry))) ⌝ }
@@ -81,7 +81,7 @@ fn times(item: &[u8]) -> Count
     decimal(&item[3..last])
 }
 
-// A number of one digit or more. It is malformed if no segment has so many bytes, so it fits.
+// A number of one digit or more. One above the longest segment is malformed, so no sum wraps.
 fn decimal(digits: &[u8]) -> Count {
     if digits.len() == 0 {
         return Count::Malformed;
@@ -102,7 +102,7 @@ fn decimal(digits: &[u8]) -> Count {
     Count::Of(n)
 }
 
-// A hexadecimal digit. Any other byte counts 256, which makes no byte with another digit.
+// A hexadecimal digit. Any other byte gives 256, so that it makes no byte with any digit.
 fn digit(c: u8) -> usize
     ensures { λ r. ⌜ r ≤ 256 ⌝ }
 {
@@ -114,7 +114,7 @@ fn digit(c: u8) -> usize
     }
 }
 
-// Every byte from one place up to another becomes `byte`.
+// Sets every byte from one place up to another to `byte`.
 fn fill(segment: &mut [u8], from: usize, to: usize, byte: u8)
     requires { ⌜ to ≤ length (now segment) ⌝ }
 {

@@ -1,6 +1,6 @@
 // Reads every segment of the table of named damage from the start, and prints its case with the
-// answer of this library. The table is tests/damage.txt, whose head gives its form; what has to
-// come out is the table without its comments.
+// answer of this library. The table is tests/damage.txt, whose head gives its form; what this has
+// to print is the table without its comments.
 mod items;
 mod search;
 
@@ -14,7 +14,7 @@ fn main() {
     let mut table = [0u8; 32768];
     let mut segment = [0u8; SEGMENT_MAX];
     let got = io::read_full(0, &mut table);
-    // Whether more was left: the segment is free until the first case.
+    // Whether more bytes follow: the segment is unused until the first case.
     let more = io::read_full(0, &mut segment);
     if 0 < more {
         text(b"the table is too long\n");
@@ -35,8 +35,8 @@ fn answer_cases(table: &[u8], segment: &mut [u8]) {
     }
 }
 
-// Prints the line with the answer of this library in place of its own. A line of another form does
-// not come out as it went in.
+// Prints the line with the answer of this library in place of its own. A malformed line is printed
+// with words before it, so that it differs from the table.
 fn answer_case(line: &[u8], segment: &mut [u8])
     requires { ⌜ 0 < length (now line) ⌝ }
 {

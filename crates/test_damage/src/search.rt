@@ -2,7 +2,7 @@
 ghost use Prim.Native.Nat.{_<_, _≤_};
 ghost use lib.ListN.{length};
 
-// The place behind the first `byte` at `from` or later; if there is none, the end.
+// The place after the first `byte` at `from` or later; if there is none, the end.
 pub(crate) fn behind_first(s: &[u8], from: usize, byte: u8) -> usize
     requires { ⌜ from < length (now s) ⌝ }
     ensures { λ r. ⌜ (from < r) × (r ≤ length (now (s .entry))) ⌝ }
@@ -17,7 +17,7 @@ pub(crate) fn behind_first(s: &[u8], from: usize, byte: u8) -> usize
     i
 }
 
-// The place behind the last semicolon and the space that follows it; if there is none, the end.
+// The place after the last semicolon and the space that follows it; if there is none, the end.
 pub(crate) fn behind_last(s: &[u8]) -> usize
     ensures { λ r. ⌜ r ≤ length (now (s .entry)) ⌝ }
 {

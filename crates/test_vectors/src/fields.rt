@@ -1,4 +1,4 @@
-// The checksum's vectors, and varints written and read.
+// The checksum's vectors, and varints encoded and decoded.
 ghost use Prim.Native.Nat.{_≤_};
 use uvarint::UvarintRead;
 
@@ -175,7 +175,8 @@ fn uvarint(n: u64) {
     print::end_line();
 }
 
-// 2^k - 1, 2^k, -2^k and -2^k - 1 for k from 0 to 62, and both ends. They are given by their zigzags, so that these are tried both ways.
+// 2^k - 1, 2^k, -2^k and -2^k - 1 for k from 0 to 62, and both ends. They are given by their
+// zigzags, so that these are tried both ways.
 pub(crate) fn varints() {
     let mut power: u64 = 1;
     for k in 0u64..63 {

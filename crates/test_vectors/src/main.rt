@@ -1,4 +1,5 @@
-// Runs outside vectors and document 01's numbers through the library. The second program writes what this has to print.
+// Runs outside vectors and the numbers of FORMAT 13 and 14 through the library. The second program
+// prints what this has to print.
 mod fields;
 mod segments;
 

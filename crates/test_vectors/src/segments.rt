@@ -1,4 +1,5 @@
-// Document 01's numbers on segments: writes on fresh slices, type bytes that are refused, and the cuts of the switch segment.
+// The numbers of FORMAT 13 and 14 on segments: writes to fresh slices, type bytes that are refused
+// (FORMAT 6.3, 6.4), and the cuts of the switch segment.
 ghost use mathlib.Core.Path.{_≡_};
 ghost use Prim.Native.Nat.{_<_};
 ghost use lib.ListN.{length};
@@ -141,7 +142,7 @@ fn write(slice: &mut [u8], place: usize, count: usize) {
 struct Header {
     kind: u8,
     count: usize,
-    // The place after the fragment; where it has no room for one, the place itself.
+    // The place after the fragment; where the slice has no room for one, the place itself.
     next: usize,
 }
 
@@ -250,7 +251,7 @@ fn answer_line(answer: ReadAnswer) {
     }
 }
 
-// The switch: at time 1000, id 7 to 0 and id 8 to 1.0.
+// The switch of FORMAT 13: at time 1000, id 7 to 0 and id 8 to 1.0.
 const SWITCH: [u8; 37] = [
     2,
     0,

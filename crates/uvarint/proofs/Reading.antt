@@ -1,4 +1,5 @@
--- What `get_uvarint` finds in its first byte; what the loop of `read_groups` knows, and what each of its steps gives.
+-- What `get_uvarint` finds in its first byte; the invariant of the loop in `read_groups`, and what
+-- each of its turns gives.
 use Prim.Native.Nat.{ℕ, suc, _+_, _-_, _*_, _%_, _^_, _≤_, _<_}
 use mathlib.Core.List.{List}
 use mathlib.Core.Path.{_≡_, refl, sym, ap₂, _∙_}
@@ -21,7 +22,7 @@ pub read-one : (s : List ℕ) (at : ℕ) → at < length s → getD s at 0 < 128
 unfolding readUvarint readGroups
 read-one s at l h = rw (drop-cons s at 0 l, readUvarint, readGroups, lt-ltb (getD s at 0) 128 h)
 
--- k bytes said `value`, and the rest says r, which counts `scale` times
+-- k bytes encode `value`, and the rest encodes r, which counts `scale` times
 pub joined : ℕ → ℕ → ℕ → UvarintRead → UvarintRead
 joined value scale k (Value n len) = Value (value + n * scale) (k + len)
 joined value scale k Short = Short
@@ -53,7 +54,7 @@ module _ (s : List ℕ) (at value scale i : ℕ) (h : Head s at value scale i) w
   unfolding readGroups joined
   ended l = sym (h .whole ∙ rw (drop-of-length-le s l))
 
-  -- a byte b that is there, one of the first nine
+  -- a byte that is present, one of the first nine
   module _ (l : at + i < length s) (u : i < 9) where
     pub last : getD s (at + i) 0 < 128 → Value (value + getD s (at + i) 0 % 128 * scale) (i + 1) ≡ readUvarint (drop at s)
     unfolding readGroups joined

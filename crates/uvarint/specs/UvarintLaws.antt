@@ -1,4 +1,4 @@
--- Laws of the uvarint: its recursion, its length, and that reading takes it back.
+-- Laws of the uvarint: its recursion, its length, and that decoding undoes encoding.
 use Prim.Native.Nat.{ℕ, zero, suc, _+_, _*_, _/_, _%_, _^_, _≤_, _<_}
 use mathlib.Core.Bool.{Bool, true, false}
 use mathlib.Core.List.{List, [], _∷_, _++_}
@@ -85,7 +85,7 @@ groups-bytes (suc f) n i h = go (ltb n 128) refl i (groups-bytes f (n / 128))
     go false e zero ih = rw (e, groups) (omega arith)
     go false e (suc i) ih = let l : 128 ≤ n = ltb-false n 128 e in rw (e, groups) (ih i (omega arith))
 
--- Reading takes it back.
+-- Decoding undoes encoding.
 
 there-and-back : (f n : ℕ) (rest : List ℕ) → n < 2 * 128 ^ f → readGroups f (uvarint n ++ rest) ≡ Value n (length (uvarint n))
 unfolding readGroups after
@@ -106,9 +106,9 @@ pub read-uvarint : (n : ℕ) (rest : List ℕ) → n < 2 ^ 64 → readUvarint (u
 unfolding readUvarint
 read-uvarint n rest h = there-and-back 9 n rest h
 
--- What a number that was read is known to be.
+-- What is known of a number that was decoded.
 
--- it took 1 to 10 bytes, all of which are there; it has 64 bits; written it takes no more bytes
+-- it took 1 to 10 bytes, all of which are present; it has 64 bits; encoded it takes no more bytes
 pub record Taken (s : List ℕ) (n len : ℕ) : Type 0 where
   pub some : 1 ≤ len
   pub most : len ≤ 10

@@ -1,7 +1,7 @@
-// Uvarints as document 01 lays them down in a body: how long one is, put into a lent slice, and read from one.
+// Uvarints (FORMAT 8.2): the length of one, encoded into a slice, and decoded from one.
 //
-// No public function has a `requires`. A place is an index into the lent slice. A put that does not fit changes no byte
-// and hands back the place it was given; otherwise it hands back the place after the last byte it put.
+// No public function has a `requires`. A place is an index into the slice. A put that does not fit
+// changes no byte and returns the place given; otherwise it returns the place after its last byte.
 ghost use mathlib.Core.Path.{_≡_};
 ghost use Prim.Native.Nat.{_+_, _≤_};
 ghost use lib.ListN.{length, drop};
@@ -9,7 +9,7 @@ ghost use lib.Seq.{sets};
 ghost use Rattle.byte_copy.specs.Put.{putAt, putEnd};
 ghost use Rattle.uvarint.specs.Uvarint.{uvarint, readUvarint};
 
-// What reading a uvarint finds. Of a refusal the place is the number's first byte, which is where the reading began.
+// What decoding a uvarint finds. The place of an error is the one given, the field's first byte.
 pub enum UvarintRead {
     // The number, and how many bytes it takes.
     Value { n: u64, len: usize },
@@ -54,7 +54,7 @@ pub fn uvarint_len(n: u64) -> usize
     10
 }
 
-// Puts the uvarint of n at a place of buf.
+// Encodes n at a place of buf.
 pub fn put_uvarint(buf: &mut [u8], at: usize, n: u64) -> usize
     ensures { λ r. ⌜ r ≡ putEnd (now (buf .entry)) at (uvarint n) ⌝ }
     ensures { λ _. ⌜ now (buf .exit) ≡ putAt (now (buf .entry)) at (uvarint n) ⌝ }
@@ -69,7 +69,7 @@ pub fn put_uvarint(buf: &mut [u8], at: usize, n: u64) -> usize
     write_groups(buf, at, n)
 }
 
-// Writes the groups of n at a place that has room for them; the place after them.
+// Writes the groups of n at a place that has room for them, and returns the place after them.
 fn write_groups(buf: &mut [u8], at: usize, n: u64) -> usize
     requires { ⌜ at + length (uvarint n) ≤ length (now buf) ⌝ }
     ensures { λ r. ⌜ r ≡ at + length (uvarint n) ⌝ }
@@ -86,14 +86,14 @@ fn write_groups(buf: &mut [u8], at: usize, n: u64) -> usize
     i + 1
 }
 
-// Reads the uvarint at a place of buf. A place past the end has no byte: Short.
+// Decodes the uvarint at a place of buf. A place past the end has no byte: Short.
 pub fn get_uvarint(buf: &[u8], at: usize) -> UvarintRead
     ensures { λ r. ⌜ r ≡ readUvarint (drop at (now (buf .entry))) ⌝ }
 {
     if buf.len() <= at {
         return UvarintRead::Short;
     }
-    // Most numbers have one byte, so that one is looked at before the loop is set up.
+    // Most numbers have one byte, so that one is tested before the loop is set up.
     let first = buf[at] as u64;
     if first < 128 {
         return UvarintRead::Value { n: first, len: 1 };
@@ -101,7 +101,7 @@ pub fn get_uvarint(buf: &[u8], at: usize) -> UvarintRead
     read_groups(buf, at)
 }
 
-// Reads group by group: `value` is what the first i bytes say, and the next group counts `scale` times.
+// Decodes group by group: the first i bytes are `value`, and the next group counts `scale` times.
 fn read_groups(buf: &[u8], at: usize) -> UvarintRead
     requires { ⌜ at ≤ length (now buf) ⌝ }
     ensures { λ r. ⌜ r ≡ readUvarint (drop at (now (buf .entry))) ⌝ }

@@ -1,4 +1,4 @@
--- Defines the varint of a signed number, and what reading a varint at the front of some bytes finds.
+-- Defines the varint of a signed number (FORMAT 8.3), and what decoding one finds.
 -- To be believed. Assumes nothing.
 use Prim.Native.Nat.{ℕ, _+_, _*_, _/_, _%_}
 use mathlib.Core.Bool.{true, false}

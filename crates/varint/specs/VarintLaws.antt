@@ -1,4 +1,5 @@
--- Laws of the zigzag and the varint: each way takes the other back, bounds, and that reading takes a varint back.
+-- Laws of the zigzag and the varint: each way of the zigzag undoes the other, bounds, and that
+-- decoding undoes encoding.
 use Prim.Native.Nat.{ℕ, _+_, _*_, _%_, _^_, _<_}
 use mathlib.Core.Bool.{Bool, true, false}
 use mathlib.Core.List.{List, _++_}
@@ -16,7 +17,7 @@ use Rattle.uvarint.specs.Uvarint.{readUvarint}
 use Rattle.uvarint.specs.UvarintLaws.{Taken, taken, read-uvarint, append-read}
 use Rattle.varint.specs.Varint.{zigzag, unzigzag, varint, signed, readVarint}
 
--- The zigzag. `mag` of n is n and of −(n + 1) is n, so an i64 is a signed number of which `mag` is below 2 ^ 63.
+-- The zigzag. `mag` of n and of −(n + 1) is n, so the `mag` of an i64 is below 2 ^ 63.
 
 pub unzigzag-zigzag : (x : ℤ) → unzigzag (zigzag x) ≡ x
 unfolding zigzag unzigzag
@@ -52,7 +53,7 @@ pub read-varint : (x : ℤ) (rest : List ℕ) → mag x < 2 ^ 63 → readVarint 
 unfolding varint readVarint signed
 read-varint x rest h = rw (read-uvarint (zigzag x) rest (zigzag-fits x h), signed, unzigzag-zigzag)
 
--- a varint that was read: its zigzag is a uvarint that was read, and it is an i64
+-- a varint that was decoded: its zigzag is a uvarint that was decoded, and it is an i64
 pub taken-varint : (s : List ℕ) (x : ℤ) (len : ℕ) → readVarint s ≡ Value x len → Taken s (zigzag x) len × (mag x < 2 ^ 63)
 unfolding readVarint signed
 taken-varint s x len e = go (readUvarint s) refl e

@@ -1,5 +1,5 @@
-// Signed varints as document 01 lays them down in a body: the zigzag of an i64 and back, and the uvarint of the zigzag.
-// Places and puts are as in `uvarint`.
+// Signed varints (FORMAT 8.3): the zigzag of an i64 and back, and the uvarint of the zigzag. Places
+// and puts are as in `uvarint`.
 ghost use mathlib.Core.Path.{_≡_};
 ghost use Prim.Native.Nat.{_≤_};
 ghost use lib.ListN.{length, drop};
@@ -10,14 +10,14 @@ use uvarint::get_uvarint;
 use uvarint::put_uvarint;
 use uvarint::uvarint_len;
 
-// What reading a signed varint finds, as for a uvarint.
+// What decoding a signed varint finds, as for a uvarint.
 pub enum VarintRead {
     Value { x: i64, len: usize },
     Short,
     BadVarint,
 }
 
-// 2x for x >= 0, and -2x - 1 for x < 0. The sum -1 - x cannot wrap, as -x can.
+// 2x for x >= 0, and -2x - 1 for x < 0. The difference -1 - x cannot wrap; -x can.
 pub fn zigzag_of(x: i64) -> u64
     ensures { λ r. ⌜ r ≡ zigzag x ⌝ }
 {
@@ -46,7 +46,7 @@ pub fn varint_len(x: i64) -> usize
     uvarint_len(zigzag_of(x))
 }
 
-// Puts the varint of x at a place of buf.
+// Encodes x at a place of buf.
 pub fn put_varint(buf: &mut [u8], at: usize, x: i64) -> usize
     ensures { λ r. ⌜ r ≡ putEnd (now (buf .entry)) at (varint x) ⌝ }
     ensures { λ _. ⌜ now (buf .exit) ≡ putAt (now (buf .entry)) at (varint x) ⌝ }
@@ -54,7 +54,7 @@ pub fn put_varint(buf: &mut [u8], at: usize, x: i64) -> usize
     put_uvarint(buf, at, zigzag_of(x))
 }
 
-// Reads the varint at a place of buf.
+// Decodes the varint at a place of buf.
 pub fn get_varint(buf: &[u8], at: usize) -> VarintRead
     ensures { λ r. ⌜ r ≡ readVarint (drop at (now (buf .entry))) ⌝ }
 {

@@ -1,4 +1,4 @@
--- `get_be8` meets its contract: the two halves, where eight bytes are there.
+-- `get_be8` meets its contract: the two halves, where eight bytes are present.
 use borrow.Author.Needs.{needs}
 use native.Mathlib.Omega.{arith}
 use Prim.Native.Nat.{ℕ, _+_, _*_, _^_}

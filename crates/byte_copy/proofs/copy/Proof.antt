@@ -1,4 +1,4 @@
--- `copy` puts down the part of the source where it fits: byte by byte, or by chunks.
+-- `copy` meets its contract: where the bytes fit they are stored, byte by byte or by chunks.
 -- Assumes nothing.
 use borrow.Author.Needs.{needs}
 use mathlib.Core.Path.{sym}

@@ -1,4 +1,4 @@
--- `copy16` puts down sixteen bytes, one by one.
+-- `copy16` meets its contract: sixteen stores, one by one.
 -- Assumes nothing.
 use Prim.Native.Nat.{ℕ, _<_}
 use native.Mathlib.Omega.{arith}

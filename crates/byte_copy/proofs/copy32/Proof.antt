@@ -1,4 +1,4 @@
--- `copy32` puts down one chunk and then another.
+-- `copy32` meets its contract: one chunk and then another.
 -- Assumes nothing.
 use borrow.Author.Needs.{needs}
 use mathlib.Core.Path.{_∙_}

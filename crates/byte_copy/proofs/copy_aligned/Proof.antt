@@ -1,4 +1,4 @@
--- `copy_aligned` puts down a chunk, and then chunks of which the first may lie over it.
+-- `copy_aligned` meets its contract: a chunk, and then chunks of which the first may overlap it.
 -- Assumes nothing.
 use borrow.Author.Needs.{needs}
 use mathlib.Core.Path.{_≡_, _∙_}

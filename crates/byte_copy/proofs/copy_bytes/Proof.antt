@@ -1,4 +1,4 @@
--- `copy_bytes` puts down the part of the source byte by byte.
+-- `copy_bytes` meets its contract: the part of the source is stored byte by byte.
 -- Assumes nothing.
 use borrow.Author.Needs.{needs}
 use mathlib.Core.Path.{_≡_, refl, ap}

@@ -1,4 +1,4 @@
--- `copy_chunks` puts down the part of the source chunk by chunk.
+-- `copy_chunks` meets its contract: the part of the source is stored chunk by chunk.
 -- Assumes nothing.
 use borrow.Author.Needs.{needs}
 use mathlib.Core.Path.{_≡_, refl, ap, _∙_}

@@ -1,4 +1,4 @@
--- `copy_front` puts down all that the last chunk does not.
+-- `copy_front` meets its contract: it stores all that the last chunk does not.
 -- Assumes nothing.
 use borrow.Author.Needs.{needs}
 use Prim.Native.Nat.{_+_, _-_, _*_, _/_, _%_}

@@ -1,4 +1,4 @@
--- `copy_long` puts down the front and then the last chunk.
+-- `copy_long` meets its contract: the front is stored, and then the last chunk.
 -- Assumes nothing.
 use borrow.Author.Needs.{needs}
 use mathlib.Core.Path.{_∙_}

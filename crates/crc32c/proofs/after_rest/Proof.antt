@@ -1,4 +1,5 @@
--- The second fold, at once: what is left of the 290 bytes has their register.
+-- `after_rest` meets its contract: the second fold, at once; what is left of the 290 bytes has
+-- their register.
 use borrow.Author.Needs.{needs}
 use native.Mathlib.Omega.{arith}
 use mathlib.Core.Path.{_≡_, refl, _∙_}

@@ -1,4 +1,4 @@
--- The register from all ones, inverted.
+-- `checksum` meets its contract: the register from all ones, inverted.
 use borrow.Author.Needs.{needs}
 use mathlib.Core.Path.{ap}
 use Prim.Native.Nat.{ℕ}

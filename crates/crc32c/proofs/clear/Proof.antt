@@ -1,4 +1,4 @@
--- Zeros behind the window. The invariant: they are stored up to i, and the window is as it was.
+-- `clear` meets its contract. The invariant: zeros are stored up to i, and the window is as it was.
 use borrow.Author.Needs.{needs}
 use native.Mathlib.Omega.{arith}
 use mathlib.Core.Path.{_≡_, refl, subst, _∙_}

@@ -1,4 +1,5 @@
--- The eights. The invariant: the register so far, with the bytes to come, makes what the whole makes.
+-- `eights` meets its contract. The invariant: the register so far, with the bytes to come, gives
+-- what the whole gives.
 use borrow.Author.Needs.{needs}
 use native.Mathlib.Omega.{arith}
 use Prim.Native.Nat.{ℕ, _-_, _%_, _≤_}

@@ -1,4 +1,4 @@
--- The fold. The invariant: the first i bytes are folded.
+-- `fold` meets its contract. The invariant: the first i bytes are folded.
 use borrow.Author.Needs.{needs}
 use native.Mathlib.Omega.{arith}
 use mathlib.Core.Path.{refl, subst}

@@ -1,4 +1,4 @@
--- The second fold. The invariant: the first i bytes are folded.
+-- `fold_again` meets its contract. The invariant: the first i bytes are folded.
 use borrow.Author.Needs.{needs}
 use native.Mathlib.Omega.{arith}
 use mathlib.Core.Path.{refl, sym, subst}

@@ -1,4 +1,4 @@
--- Four bytes more, where there are four.
+-- `four` meets its contract: four bytes more, where four are left.
 use borrow.Author.Needs.{needs}
 use native.Mathlib.Omega.{arith}
 use Prim.Native.Nat.{ℕ, _-_, _%_}

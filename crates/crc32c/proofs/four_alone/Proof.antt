@@ -1,4 +1,4 @@
--- Four bytes, from what is left of each.
+-- `four_alone` meets its contract: the steps of four bytes, from those of each.
 use borrow.Author.Needs.{needs}
 use mathlib.Core.Path.{ap, _∙_}
 use Rattle.crc32c_format.specs.Crc.{bitSteps}

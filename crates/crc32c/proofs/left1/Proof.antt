@@ -1,4 +1,4 @@
--- A byte, by its two halves.
+-- `left1` meets its contract: a byte, by its two halves.
 use borrow.Author.Needs.{needs}
 use Rattle.crc32c_format.specs.Method.Steps.{left-halves}
 use Rattle.crc32c.proofs.left1.Statement.{statement}

@@ -1,4 +1,4 @@
--- Two bytes, by halves.
+-- `left2` meets its contract: two bytes, by halves.
 use borrow.Author.Needs.{needs}
 use Rattle.crc32c_format.specs.Method.Steps.{left-halves}
 use Rattle.crc32c.proofs.left2.Statement.{statement}

@@ -1,4 +1,4 @@
--- Four bytes, by halves.
+-- `left4` meets its contract: four bytes, by halves.
 use borrow.Author.Needs.{needs}
 use Rattle.crc32c_format.specs.Method.Steps.{left-halves}
 use Rattle.crc32c.proofs.left4.Statement.{statement}

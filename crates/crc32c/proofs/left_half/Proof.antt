@@ -1,4 +1,4 @@
--- An entry of the small table.
+-- `left_half` meets its contract: an entry of the small table.
 use borrow.Author.Needs.{needs}
 use Rattle.crc32c_format.specs.Method.Tables.{nibble-at}
 use Rattle.crc32c.proofs.left_half.Statement.{statement}

@@ -1,4 +1,4 @@
--- Two bytes as a number.
+-- `load2` meets its contract: two bytes as a number.
 use borrow.Author.Needs.{needs}
 use native.Mathlib.Omega.{arith}
 use Prim.Native.Nat.{_+_}

@@ -1,4 +1,4 @@
--- Four bytes as a number, by halves.
+-- `load4` meets its contract: four bytes as a number, by halves.
 use borrow.Author.Needs.{needs}
 use Rattle.crc32c_format.specs.Method.Parts.{littleEndian-halves}
 use Rattle.crc32c.proofs.load4.Statement.{statement}

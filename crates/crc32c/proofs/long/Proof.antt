@@ -1,4 +1,5 @@
--- The window slides over the message. The invariant: it is the window after the first i bytes.
+-- `long` meets its contract: the window slides over the message. The invariant: it is the window
+-- after the first i bytes.
 use borrow.Author.Needs.{needs}
 use native.Mathlib.Omega.{arith}
 use mathlib.Core.Path.{_≡_, refl, subst, _∙_}

@@ -1,4 +1,4 @@
--- The register of long data from all ones, inverted.
+-- `long_sum` meets its contract: the register of long data from all ones, inverted.
 use borrow.Author.Needs.{needs}
 use mathlib.Core.Path.{ap, _∙_}
 use Prim.Native.Nat.{ℕ}

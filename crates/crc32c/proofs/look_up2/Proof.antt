@@ -1,4 +1,4 @@
--- Two bytes by a lent table.
+-- `look_up2` meets its contract: two bytes by a caller's table.
 use borrow.Author.Needs.{needs}
 use mathlib.Core.Path.{refl}
 use Rattle.crc32c_format.specs.TableSum.{lookUp2}

@@ -1,4 +1,4 @@
--- Four bytes by a lent table.
+-- `look_up4` meets its contract: four bytes by a caller's table.
 use borrow.Author.Needs.{needs}
 use mathlib.Core.Path.{ap₂}
 use Rattle.crc32c_format.specs.TableSum.{lookUp4}

@@ -1,4 +1,5 @@
--- The small table is the one that the worker asks for: both are computed and compared. The slice is handed on whole.
+-- `short` meets its contract. The constant is the small table of the definition: both are computed
+-- and compared. The slice is passed on whole.
 use borrow.Author.Needs.{needs}
 use mathlib.Core.Path.{refl, ap, _∙_}
 use Rattle.crc32c_format.specs.Crc.{bitStep, bitSteps, register}

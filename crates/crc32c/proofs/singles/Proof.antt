@@ -1,4 +1,5 @@
--- The last bytes. The invariant: the register so far, with the bytes to come, makes what the part makes.
+-- `singles` meets its contract. The invariant: the register so far, with the bytes to come, gives
+-- what the part gives.
 use borrow.Author.Needs.{needs}
 use native.Mathlib.Omega.{arith}
 use Prim.Native.Nat.{_-_, _%_, _≤_}

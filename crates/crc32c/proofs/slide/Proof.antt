@@ -1,4 +1,4 @@
--- The window moved. The invariant: the first i bytes are moved, and those from i on are as they were.
+-- `slide` meets its contract. The invariant: the first i bytes are moved, the others as they were.
 use borrow.Author.Needs.{needs}
 use native.Mathlib.Omega.{arith}
 use native.Mathlib.Nat.{add-comm}

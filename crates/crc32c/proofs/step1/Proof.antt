@@ -1,4 +1,4 @@
--- The register after one byte.
+-- `step1` meets its contract: the register after one byte.
 use borrow.Author.Needs.{needs}
 use mathlib.Core.Path.{ap, sym, _∙_}
 use Prim.Native.Nat.{ℕ, _/_}

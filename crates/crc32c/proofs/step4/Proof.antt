@@ -1,4 +1,4 @@
--- The register after four bytes.
+-- `step4` meets its contract: the register after four bytes.
 use borrow.Author.Needs.{needs}
 use Prim.Native.Nat.{ℕ}
 use mathlib.Core.Path.{sym, ap, _∙_}

@@ -1,4 +1,4 @@
--- The register after eight bytes.
+-- `step8` meets its contract: the register after eight bytes.
 use borrow.Author.Needs.{needs}
 use mathlib.Core.Path.{refl, ap₂}
 use Rattle.crc32c_format.specs.Method.Parts.{register-eight}

@@ -1,4 +1,4 @@
--- The slices are handed on whole.
+-- `sum_by_table` meets its contract: the slices are passed on whole.
 use borrow.Author.Needs.{needs}
 use Prim.Native.Nat.{ℕ}
 use mathlib.Core.List.{List}

@@ -1,4 +1,4 @@
--- Four bytes more by a lent table, where there are four.
+-- `table_four` meets its contract: four bytes more by a caller's table, where four are left.
 use borrow.Author.Needs.{needs}
 use native.Mathlib.Omega.{arith}
 use mathlib.Core.Path.{sym, _∙_}

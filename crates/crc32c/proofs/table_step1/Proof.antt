@@ -1,4 +1,4 @@
--- One byte by a lent table.
+-- `table_step1` meets its contract: one byte by a caller's table.
 use borrow.Author.Needs.{needs}
 use native.Mathlib.Omega.{arith}
 use Rattle.crc32c_format.specs.Method.Slicing.{tableStep1-at}

@@ -1,4 +1,4 @@
--- Four bytes by a lent table.
+-- `table_step4` meets its contract: four bytes by a caller's table.
 use borrow.Author.Needs.{needs}
 use Prim.Native.Nat.{ℕ}
 use mathlib.Core.Path.{ap, _∙_}

@@ -1,4 +1,4 @@
--- Eight bytes by a lent table.
+-- `table_step8` meets its contract: eight bytes by a caller's table.
 use borrow.Author.Needs.{needs}
 use Rattle.crc32c_format.specs.Method.Slicing.{tableStep8-at}
 use Rattle.crc32c.proofs.table_step8.Statement.{statement}

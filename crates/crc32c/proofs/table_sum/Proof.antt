@@ -1,4 +1,4 @@
--- The three runs are the definition.
+-- `table_sum` meets its contract: its three loops are the definition's three runs of steps.
 use borrow.Author.Needs.{needs}
 use Prim.Native.Nat.{ℕ}
 use mathlib.Core.Path.{ap}

@@ -1,4 +1,4 @@
--- What the second multiple puts onto a byte: the definition, term by term.
+-- `taps130` meets its contract: the definition, term by term.
 use borrow.Author.Needs.{needs}
 use mathlib.Core.Path.{refl}
 use Rattle.crc32c_format.specs.Method.Fold.{xorOver, taps}

@@ -1,4 +1,4 @@
--- Method, laws: a message folds to its last bytes, as many as the greatest distance of the multiple.
+-- Method, laws: a message folds to its last bytes, as many as the multiple's greatest distance.
 use mathlib.Core.Path.{_≡_, refl, sym, ap, ap₂, _∙_, subst}
 use mathlib.Core.List.{List, [], _∷_, _++_}
 use Prim.Native.Nat.{ℕ, zero, suc, _+_, _-_, _*_, _^_, _<_, _≤_}
@@ -20,7 +20,7 @@ use Rattle.crc32c_format.specs.Method.Lists.{lt-or-ge}
 
 -- ---- lists of bytes as numbers
 
--- the part of y from d on, seen from the whole
+-- the steps of y, split at its byte d
 part : (d n : ℕ) (y : List ℕ) → d ≤ length y
     → bitSteps (8 * d + n) (littleEndian y) ≡ bitXor (bitSteps (8 * d + n) (littleEndian (take d y))) (bitSteps n (littleEndian (drop d y)))
 part d n y h =
@@ -30,7 +30,7 @@ part d n y h =
     ∙ ap (bitXor (bitSteps (8 * d + n) (littleEndian (take d y))))
     (bitSteps-add (8 * d) n (littleEndian (drop d y) * 2 ^ (8 * d)) ∙ ap (bitSteps n) (bitSteps-shift (8 * d) (littleEndian (drop d y))))
 
--- the xor of two lists, place by place; the shorter goes on with zeros
+-- the xor of two lists, place by place; the shorter is continued with zeros
 xors : List ℕ → List ℕ → List ℕ
 xors [] ys = ys
 xors (x ∷ xs) [] = x ∷ xs
@@ -52,7 +52,7 @@ littleEndian-xors (x ∷ xs) (y ∷ ys) =
     ∙ ap (bitXor (bitXor x y)) (xor-mul (littleEndian xs) (littleEndian ys))
     ∙ xor-four x y (littleEndian xs * 256) (littleEndian ys * 256)
 
--- a list's number goes by its elements, and zeros at its end count nothing
+-- a list's number depends on its elements alone, and zeros at its end do not count
 pub littleEndian-ext : (xs ys : List ℕ) → ((i : ℕ) → getD xs i 0 ≡ getD ys i 0) → littleEndian xs ≡ littleEndian ys
 unfolding littleEndian
 littleEndian-ext [] [] h = refl
@@ -70,7 +70,7 @@ littleEndian-zeros (suc n) r =
 
 -- ---- the fold
 
--- y counts nothing past its first n bytes
+-- the number of a list that is zero after its first n bytes
 small : (n : ℕ) (y : List ℕ) → n ≤ length y → ((k : ℕ) → getD y k 0 < 256) → ((k : ℕ) → n ≤ k → getD y k 0 ≡ 0) → littleEndian y < 2 ^ (8 * n)
 small n y ly bytes zeros =
     let t = take n y in
@@ -80,7 +80,7 @@ small n y ly bytes zeros =
     λ i. ⊎-elim (λ (g : i < n). sym (getD-take n y i 0 g)) (λ (g : n ≤ i). zeros i g ∙ sym (past i g)) (lt-or-ge i n) in
     subst (λ (k : ℕ). k < 2 ^ (8 * n)) (sym (littleEndian-ext y t same)) (littleEndian-lt n y bytes)
 
--- l, with y seen from each of the distances on: as a number, and as a list
+-- l, xored with the part of y from each distance on: as a number, and as a list
 overlay : List ℕ → List ℕ → List ℕ → ℕ
 overlay y l ds = xorOver (λ d. littleEndian (drop d y)) (littleEndian l) ds
 
@@ -104,7 +104,7 @@ getD-overlaid y l (d ∷ ds) i =
     getD-overlaid y (xors l (drop d y)) ds i
     ∙ ap (λ (x : ℕ). xorOver (λ d. getD y (i + d) 0) x ds) (getD-xors l (drop d y) i ∙ ap (bitXor (getD l i 0)) (getD-view d y i))
 
--- the farthest apart, and the rest are the taps
+-- the byte at the greatest distance, and the others are the taps
 over-taps : (D : Distances) (y : List ℕ) (i : ℕ) → xorOver (λ d. getD y (i + d) 0) (getD y i 0) (distances D) ≡ bitXor (getD y (i + D .far) 0) (taps D y i)
 unfolding taps xorOver
 over-taps D y i =
@@ -175,7 +175,7 @@ module _ (D : Distances) (M : Multiple D) where
       ∙ xorOver-xor first whole (bitSteps n c) (bitSteps n (littleEndian y)) (distances D)
       ∙ ap₂ bitXor (sparse-zero D M n c hc) (sparse-zero D M n (littleEndian y) hy))
 
-  -- what the fold leaves: the last bytes, with what is put onto them
+  -- what the fold leaves: the last bytes, with what is xored into them
   pub folded : (m y r : List ℕ) (c n : ℕ) → length m ≡ n + D .far → length r ≡ D .far → n + D .far ≤ length y → c < 2 ^ 32
       → ((k : ℕ) → getD y k 0 < 256)
       → ((i : ℕ) → i < n → getD y (i + D .far) 0 ≡ bitXor (getD m i 0) (taps D y i))

@@ -13,7 +13,7 @@ lt-or-ge a zero = inr zero-le
 lt-or-ge zero (suc b) = inl (zero-lt-suc b)
 lt-or-ge (suc a) (suc b) = ⊎-elim (λ p. inl (suc-le-suc p)) (λ q. inr (suc-le-suc q)) (lt-or-ge a b)
 
--- after a store at j of what f wants there, the places below j + 1 are as f wants them
+-- after f j is stored at place j, the places below j + 1 hold what f gives
 pub set-more : (f : ℕ → ℕ) (r : List ℕ) (j : ℕ) {v : ℕ} → j < length r → v ≡ f j → ((k : ℕ) → k < j → getD r k 0 ≡ f k)
     → (k : ℕ) → k < j + 1 → getD (set r j v) k 0 ≡ f k
 set-more f r j {v} h e g k l =

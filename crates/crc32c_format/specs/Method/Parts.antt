@@ -13,7 +13,7 @@ use Rattle.crc32c_format.specs.Bytes.{littleEndian}
 use Rattle.crc32c_format.specs.Method.Xor.{xor-assoc, xor-mul}
 use Rattle.crc32c_format.specs.Method.Steps.{bitSteps-xor, bitSteps-add, bitSteps-shift, register-append, register-littleEndian}
 
--- from the bytes passed to those to come
+-- the register after n bytes goes on with the bytes after them
 pub register-take : (n : ℕ) (c : ℕ) (s : List ℕ) (at : ℕ) {r : ℕ} → r ≡ register c (take n (drop at s))
     → register r (drop (at + n) s) ≡ register c (drop at s)
 register-take n c s at h =
@@ -21,11 +21,11 @@ register-take n c s at h =
     ∙ sym (register-append c (take n (drop at s)) (drop n (drop at s)))
     ∙ ap (register c) (take-append-drop n (drop at s))
 
--- the same, where the place after them is known by an equation
+-- the same, where the place after them is given by an equation
 pub register-to : (n c at next : ℕ) (s : List ℕ) {r : ℕ} → at + n ≡ next → r ≡ register c (take n (drop at s)) → register r (drop next s) ≡ register c (drop at s)
 register-to n c at next s {r} e h = ap (λ (k : ℕ). register r (drop k s)) (sym e) ∙ register-take n c s at h
 
--- nothing is left
+-- no byte is left
 pub register-done : (c at : ℕ) (s : List ℕ) → length s ≤ at → register c (drop at s) ≡ c
 unfolding register
 register-done c at s h = ap (register c) (drop-of-length-le s {i = at} h)
@@ -77,7 +77,7 @@ register-part n c s at h =
     register-littleEndian c (take n (drop at s))
     ∙ ap (λ (m : ℕ). bitSteps (8 * m) (bitXor c (littleEndian (take n (drop at s))))) (length-part n s at h)
 
--- four bytes and then four: the later four do not meet the register
+-- eight bytes as four and four: only the first four are xored with the register
 pub register-eight : (c : ℕ) (s : List ℕ) (at : ℕ) {x y r : ℕ} → at + 8 ≤ length s → x ≡ littleEndian (take 4 (drop at s)) → y ≡ littleEndian (take 4 (drop (at + 4) s))
     → r ≡ bitXor (bitSteps 32 y) (bitSteps 64 (bitXor c x)) → r ≡ register c (take 8 (drop at s))
 register-eight c s at {x} {y} h ex ey g =
@@ -89,7 +89,7 @@ register-eight c s at {x} {y} h ex ey g =
     ∙ sym (register-append c (take 4 (drop at s)) (take 4 (drop (at + 4) s)))
     ∙ ap (register c) (sym (take-twice 4 s at))
 
--- what is left of the bytes at a place: of the first by itself, and of those behind it
+-- the steps of the bytes at a place: those of the first alone, and those of the bytes after it
 left-byte : (n k : ℕ) (s : List ℕ) (at next : ℕ) → suc at ≡ next → at < length s
     → bitSteps (8 + n) (littleEndian (take (suc k) (drop at s))) ≡ bitXor (bitSteps (8 + n) (getD s at 0)) (bitSteps n (littleEndian (take k (drop next s))))
 unfolding littleEndian
@@ -101,7 +101,7 @@ left-byte n k s at next e h =
     ∙ ap (bitSteps n) (bitSteps-shift 8 (littleEndian (take k (drop (suc at) s))))
     ∙ ap (λ (i : ℕ). bitSteps n (littleEndian (take k (drop i s)))) e)
 
--- what is left of four bytes, from what is left of each
+-- the steps of four bytes, from those of each
 pub left-four : (s : List ℕ) (at : ℕ) {a b c d : ℕ} → at + 4 ≤ length s → a ≡ bitSteps 32 (getD s at 0) → b ≡ bitSteps 24 (getD s (at + 1) 0)
     → c ≡ bitSteps 16 (getD s (at + 2) 0) → d ≡ bitSteps 8 (getD s (at + 3) 0) → bitXor (bitXor (bitXor a b) c) d ≡ bitSteps 32 (littleEndian (take 4 (drop at s)))
 unfolding littleEndian bitSteps
@@ -113,7 +113,7 @@ left-four s at {a} {b} {c} {d} h ea eb ec ed =
     ∙ sym (left-byte 16 2 s (at + 1) (at + 2) (omega arith) (omega arith)))
     ∙ sym (left-byte 24 3 s at (at + 1) (omega arith) (omega arith))
 
--- the number of n bytes has n bytes
+-- the number of n bytes is below 2 ^ (8 * n)
 pub littleEndian-lt : (n : ℕ) (s : List ℕ) → ((k : ℕ) → getD s k 0 < 256) → littleEndian (take n s) < 2 ^ (8 * n)
 unfolding littleEndian
 littleEndian-lt zero s h = zero-lt-suc 0

@@ -1,4 +1,4 @@
--- Method, laws: by `sliceTable` the register is that of CRC-32C; and the steps of loops that go by a table.
+-- Method, laws: by `sliceTable` the register is that of CRC-32C; and the steps of loops by a table.
 use mathlib.Core.Path.{_≡_, refl, sym, ap, ap₂, _∙_, subst}
 use mathlib.Core.List.{List, [], _∷_}
 use Prim.Native.Nat.{ℕ, zero, suc, _+_, _*_, _-_, _/_, _%_, _<_, _≤_}
@@ -31,7 +31,7 @@ lookUp4-slices k x hk hx =
     (lookUp2-slices (k + 2) (x % 65536) (omega arith) (omega arith) ∙ ap (λ (j : ℕ). bitSteps j (x % 65536)) (omega arith))
     (lookUp2-slices k (x / 65536) (omega arith) (omega arith))
 
--- a list of bytes
+-- a list whose numbers are all bytes
 abbrev Octets : List ℕ → Type 0
 Octets s = (k : ℕ) → getD s k 0 < 256
 
@@ -86,7 +86,7 @@ steps-right w step right (suc n) c s l hc h =
     ∙ ap (register c) (sym (take-add w (w * n) s))
     ∙ ap (λ (k : ℕ). register c (take k s)) e
 
--- the same, at a place: the register is below 2 ^ 32 and goes on with the bytes after the place reached
+-- the same, at a place: the register is below 2 ^ 32 and goes on with the bytes after those
 steps-at : (w : ℕ) (step : ℕ → List ℕ → ℕ) → Right w step → (n c at next : ℕ) (s : List ℕ) → at + w * n ≡ next → next ≤ length s → c < 4294967296 → Octets s
     → (steps w step n c (drop at s) < 4294967296) × (register (steps w step n c (drop at s)) (drop next s) ≡ register c (drop at s))
 steps-at w step right n c at next s e l hc h =

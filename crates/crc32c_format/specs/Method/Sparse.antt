@@ -1,4 +1,4 @@
--- Method, laws: a sparse multiple of the polynomial, and that the two sums of `Fold` are such.
+-- Method, laws: sparse multiples of the polynomial, among them the two sums of `Fold`.
 use mathlib.Core.Path.{_≡_, refl, sym, ap, ap₂, _∙_, subst}
 use mathlib.Core.List.{List, [], _∷_}
 use Prim.Native.Nat.{ℕ, zero, suc, _+_, _*_, _/_, _%_, _^_, _<_, _≤_}
@@ -56,11 +56,12 @@ xorOver-steps n f a (d ∷ ds) =
 abbrev pub distances : Distances → List ℕ
 distances D = D .far ∷ D .next ∷ D .others
 
--- what is left of g after n bits, with what is left of it after n and each of the distances: the sum, times g
+-- g after n bit steps, xored with g after 8 * d + n for each distance d: the sum of powers, times g
 unfoldable pub sparse : Distances → ℕ → ℕ → ℕ
 sparse D n g = xorOver (λ d. bitSteps (8 * d + n) g) (bitSteps n g) (distances D)
 
--- what a fold asks of its distances: the polynomial divides the sum, none is within a register's four bytes, and the greatest two are named as such
+-- what a fold needs of its distances: the polynomial divides the sum, none is within a register's
+-- four bytes, and the greatest two are named as such
 pub record Multiple (D : Distances) : Type 0 where
   pub all : Each (λ d. (4 ≤ d) × (d ≤ D .far)) (distances D)
   pub less : D .next < D .far
@@ -100,7 +101,7 @@ module _ (D : Distances) (M : Multiple D) where
   sparse-digit : (n x : ℕ) → x < 2 → sparse D n x ≡ 0
   sparse-digit n = digit (λ (x : ℕ). sparse D n x ≡ 0) (sparse-0 n) (sparse-after n 1 ∙ ap (bitSteps n) (M .divides) ∙ bitSteps-zero n)
 
-  -- whatever has n bits and has left the register leaves nothing in the multiple
+  -- for a number of n bits nothing is left after n steps, since the polynomial divides the sum
   pub sparse-zero : (n g : ℕ) → g < 2 ^ n → sparse D n g ≡ 0
   unfolding sparse
   sparse-zero zero g h = ap (sparse D 0) (lt-one h) ∙ sparse-0 0

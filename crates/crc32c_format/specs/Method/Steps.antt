@@ -1,4 +1,5 @@
--- Method, laws: a bit step is linear over xor, so the steps of a number fall apart into those of its parts; and the register as one number.
+-- Method, laws: a bit step is linear over xor, so the steps of a number are the xor of those of its
+-- parts; and the register as one number.
 use mathlib.Core.Path.{_≡_, refl, sym, ap, ap₂, _∙_}
 use mathlib.Core.List.{List, [], _∷_, _++_}
 use Prim.Native.Nat.{ℕ, zero, suc, _+_, _*_, _/_, _%_, _^_, _<_}
@@ -11,7 +12,7 @@ use Rattle.crc32c_format.specs.Crc.{bitStep, bitSteps, register}
 use Rattle.crc32c_format.specs.Bytes.{littleEndian}
 use Rattle.crc32c_format.specs.Method.Xor.{digit, odd, xor-assoc, xor-four}
 
--- the polynomial at the xor of two digits
+-- the polynomial times the xor of two binary digits
 poly-xor : (x y : ℕ) → x < 2 → y < 2 → bitXor x y * 0x82F63B78 ≡ bitXor (x * 0x82F63B78) (y * 0x82F63B78)
 poly-xor x y hx hy =
     digit (λ x. bitXor x y * 0x82F63B78 ≡ bitXor (x * 0x82F63B78) (y * 0x82F63B78))
@@ -46,12 +47,12 @@ pub bitSteps-more : (n m c : ℕ) {r : ℕ} → m ≡ suc n → r ≡ bitStep c 
 unfolding bitSteps
 bitSteps-more n m c e g = ap (bitSteps n) g ∙ ap (λ (k : ℕ). bitSteps k c) (sym e)
 
--- a bit that is 0 only leaves
+-- where the lowest bit is 0, a step only shifts
 bitStep-even : (a : ℕ) → bitStep (a * 2) ≡ a
 unfolding bitStep
 bitStep-even a = simp (mul-mod-left, mul-div-cancel a (zero-lt-suc 1))
 
--- k that are 0
+-- where the k lowest bits are 0, k steps only shift
 pub bitSteps-shift : (k a : ℕ) → bitSteps k (a * 2 ^ k) ≡ a
 unfolding bitSteps
 bitSteps-shift zero a = mul-one a
@@ -60,7 +61,7 @@ bitSteps-shift (suc k) a =
     ∙ ap (bitSteps k) (bitStep-even (a * 2 ^ k))
     ∙ bitSteps-shift k a
 
--- w steps more: those of the w low bits, and the rest is w bits further on
+-- w + n steps of x: those of its w low bits, and n steps of the rest, which is shifted by w
 pub bitSteps-split : (w n x : ℕ) → bitSteps (w + n) x ≡ bitXor (bitSteps (w + n) (x % 2 ^ w)) (bitSteps n (x / 2 ^ w))
 bitSteps-split w n x =
     ap (bitSteps (w + n)) (sym (split x w) ∙ sym (xor-shifted (x / 2 ^ w) w (x % 2 ^ w) (mod-lt x (pow-pos w))))
@@ -69,7 +70,7 @@ bitSteps-split w n x =
     (bitSteps-add w n (x / 2 ^ w * 2 ^ w) ∙ ap (bitSteps n) (bitSteps-shift w (x / 2 ^ w)))
     ∙ xor-comm (bitSteps n (x / 2 ^ w)) (bitSteps (w + n) (x % 2 ^ w))
 
--- what is left of x, from what is left of its two halves of d times four bits
+-- the steps of x, from those of its two halves of 4 * d bits
 pub left-halves : (d k x : ℕ) {p q : ℕ} → p ≡ bitSteps (4 * d + 4 * (k + d)) (x % 2 ^ (4 * d)) → q ≡ bitSteps (4 * d + 4 * k) (x / 2 ^ (4 * d))
     → bitXor p q ≡ bitSteps (4 * (d + d) + 4 * k) x
 left-halves d k x {p} {q} hp hq =
@@ -79,13 +80,13 @@ left-halves d k x {p} {q} hp hq =
     ∙ sym (bitSteps-split (4 * d) (4 * d + 4 * k) x)
     ∙ ap (λ (n : ℕ). bitSteps n x) g
 
--- the register goes on from where it is
+-- the register after two lists, one after the other
 pub register-append : (c : ℕ) (xs ys : List ℕ) → register c (xs ++ ys) ≡ register (register c xs) ys
 unfolding register
 register-append c [] ys = refl
 register-append c (x ∷ xs) ys = register-append (bitSteps 8 (bitXor c x)) xs ys
 
--- a list of bytes at once: its littleEndian goes into the register, and eight bits for each byte leave
+-- a list of bytes at once: its number is xored into the register, then eight steps for each byte
 pub register-littleEndian : (c : ℕ) (bs : List ℕ) → register c bs ≡ bitSteps (8 * length bs) (bitXor c (littleEndian bs))
 unfolding register bitSteps littleEndian
 register-littleEndian c [] = sym (xor-zero-r c)

@@ -1,4 +1,5 @@
--- Method, laws: the entries of the tables; and a table that is filled entry by entry (`Filled`, which contracts of private functions cite).
+-- Method, laws: the entries of the tables; and a table that is filled entry by entry (`Filled`,
+-- which contracts of private functions cite).
 use mathlib.Core.Path.{_≡_, refl, sym, ap, ap₂, _∙_}
 use mathlib.Core.List.{List, map}
 use Prim.Native.Nat.{ℕ, zero, suc, _+_, _-_, _*_, _/_, _%_, _^_, _<_, _≤_}
@@ -69,7 +70,7 @@ pub entry-first : (i : ℕ) → i < 256 → bitSteps 8 i ≡ tableEntry 8 i
 unfolding tableEntry
 entry-first i h = ap₂ bitSteps (omega arith) (omega arith)
 
--- each later entry is eight bits on from the entry before it in its column
+-- each later entry is eight bit steps on from the one above it
 pub entry-next : (t : List ℕ) (i : ℕ) {e : ℕ} → 256 ≤ i → Filled t i → e ≡ getD t (i - 256) 0 → bitXor (getD t (e % 256) 0) (e / 256) ≡ tableEntry 8 i
 unfolding tableEntry bitSteps
 entry-next t i {e} h f g =

@@ -1,4 +1,5 @@
--- Method, laws: one turn of the loop that folds; the window that it starts from, slides and ends with; and the fold as a whole.
+-- Method, laws: one turn of the loop that folds; the window that it starts from, slides and ends
+-- with; and the fold as a whole.
 use mathlib.Core.Path.{_≡_, refl, sym, ap, ap₂, _∙_, subst}
 use mathlib.Core.List.{List, [], _∷_, _++_}
 use mathlib.Core.Logic.{⊎-elim}
@@ -36,7 +37,7 @@ getD-zeros zero k = refl
 getD-zeros (suc n) zero = refl
 getD-zeros (suc n) (suc k) = getD-zeros n k
 
--- zeros behind the four bytes count nothing
+-- zeros after the four bytes do not count
 getD-registerBytes : (n c k : ℕ) → getD (registerBytes c (replicate n 0)) k 0 ≡ getD (registerBytes c []) k 0
 getD-registerBytes n c zero = refl
 getD-registerBytes n c (suc zero) = refl
@@ -64,7 +65,8 @@ registerBytes-lt c (suc (suc zero)) h = omega arith
 registerBytes-lt c (suc (suc (suc zero))) h = omega arith
 registerBytes-lt c (suc (suc (suc (suc k)))) h = zero-lt-suc 255
 
--- w begins with the window after the first i bytes of m, from the register c; `past` is all that was folded so far
+-- w begins with the window after the first i bytes of m, from the register c; `past` is all that
+-- was folded so far
 pub record Window (D : Distances) (m : List ℕ) (c : ℕ) (w : List ℕ) (i : ℕ) : Type 0 where
   pub past : List ℕ
   pub size : length past ≡ i + D .far
@@ -74,7 +76,7 @@ pub record Window (D : Distances) (m : List ℕ) (c : ℕ) (w : List ℕ) (i : �
   pub seen : (k : ℕ) → k < D .far → getD w k 0 ≡ getD past (i + k) 0
 
 module _ (D : Distances) (M : Multiple D) where
-  -- the same bytes, n places on, put the same onto a byte
+  -- the same bytes, n places on, have the same taps
   taps-at : (y z : List ℕ) (n j : ℕ) → ((k : ℕ) → k ≤ j + D .next → getD y k 0 ≡ getD z (n + k) 0) → taps D y j ≡ taps D z (n + j)
   unfolding taps
   taps-at y z n j h =
@@ -85,7 +87,7 @@ module _ (D : Distances) (M : Multiple D) where
   taps-same : (y z : List ℕ) (j : ℕ) → ((k : ℕ) → k ≤ j + D .next → getD y k 0 ≡ getD z k 0) → taps D y j ≡ taps D z j
   taps-same y z j h = taps-at y z 0 j (λ k l. h k l ∙ ap (λ (a : ℕ). getD z a 0) (sym (zero-add k))) ∙ ap (taps D z) (zero-add j)
 
-  -- a store past the taps
+  -- a store past the taps does not change them
   taps-set : (z : List ℕ) (p v j : ℕ) → j + D .next < p → taps D (set z p v) j ≡ taps D z j
   taps-set z p v j h = taps-same (set z p v) z j (λ k l. getD-set-other z p k v 0 (λ e. omega arith))
 
@@ -110,7 +112,7 @@ module _ (D : Distances) (M : Multiple D) where
       xor-lt 8 (xorOver (λ d. getD z (j + d) 0) (getD z (j + D .next) 0) (D .others)) (getD z j 0)
       (xorOver-lt (λ d. getD z (j + d) 0) (D .others) (M .near) (h (j + D .next) (omega arith)) (λ d l. h (j + d) (omega arith))) (h j (omega arith))
 
-  -- bytes are folded to bytes: those below a
+  -- bytes fold to bytes: those at places below a
   folded-lt : (a : ℕ) {m y z : List ℕ} {n : ℕ} → Folded D m y z n → ((k : ℕ) → k < n → getD m k 0 < 256) → ((k : ℕ) → k < D .far → getD y k 0 < 256)
       → (k : ℕ) → k < a → k < n + D .far → getD z k 0 < 256
   folded-lt zero f hm hy k h l = absurd (omega arith)
@@ -135,7 +137,7 @@ module _ (D : Distances) (M : Multiple D) where
         seen = λ k l. getD-registerBytes z c k ∙ sym (getD-registerBytes (D .far - 4) c k) ∙ ap (λ (a : ℕ). getD (registerBytes c (replicate (D .far - 4) 0)) a 0) (sym (zero-add k));
       }
 
-  -- n bytes more are folded, those of m′, and the window slides behind them
+  -- n bytes more are folded, those of m′, and the window slides past them
   module _ (m m′ w z w′ : List ℕ) (c i n : ℕ) (v : Window D m c w i) (f : Folded D m′ w z n) (s : Slid D z w′ n) (lz : n + D .far ≤ length z)
       (bytes : (k : ℕ) → getD m k 0 < 256) (part : (j : ℕ) → j < n → getD m′ j 0 ≡ getD m (i + j) 0) where
     new : List ℕ
@@ -200,7 +202,8 @@ module _ (D : Distances) (M : Multiple D) where
       seen = λ k l. s .byte k l ∙ agree (n + k) (omega arith) ∙ ap (λ (a : ℕ). getD (v .past ++ new) a 0) {x = i + (n + k)} {y = i + n + k} (omega arith);
     }
 
-  -- the register after what the fold leaves of the last D .far bytes, those of l, is the register after the message
+  -- the register after what the fold leaves of the last D .far bytes, those of l, is the register
+  -- after the message
   pub register-fold : (m l w y r : List ℕ) (c n : ℕ) → Window D m c w n → Cleared D w y → Rest D l y r → ((j : ℕ) → j < D .far → getD l j 0 ≡ getD m (n + j) 0)
       → length m ≡ n + D .far → c < 2 ^ 32 → register 0 r ≡ register c m
   register-fold m l w y r c n v e q part lm hc =
@@ -212,7 +215,7 @@ module _ (D : Distances) (M : Multiple D) where
       (λ d a b. littleEndian-front c d past (omega arith) (omega (arith, v .size)) (λ k h. v .front k (omega arith)))
       (λ j h. q .byte j h ∙ ap₂ bitXor (part j h) (taps-at y past n j (λ k a. same k (omega arith)))))
 
-  -- the same for a message that is folded at once, from 0: y, which is z from n on, needs no window of its own
+  -- the same for a message folded at once, from 0: y, which is z from n on, needs no window
   pub register-fold-once : (m l z y r : List ℕ) (n k : ℕ) → Folded D m (registerBytes 0 (replicate k 0)) z n → Rest D l y r → ((j : ℕ) → getD m j 0 < 256)
       → ((j : ℕ) → j < D .far → getD l j 0 ≡ getD m (n + j) 0) → ((j : ℕ) → j < D .far + D .next → getD y j 0 ≡ getD z (n + j) 0)
       → length m ≡ n + D .far → n + D .far ≤ k + 4 → register 0 r ≡ register 0 m

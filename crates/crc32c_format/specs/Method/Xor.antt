@@ -1,4 +1,4 @@
--- Method, laws: `bitXor` is associative, which `lib.Bits` does not have, and what follows from that.
+-- Method, laws: `bitXor` is associative, which `lib.Bits` does not have, and what follows from it.
 use mathlib.Core.Path.{_≡_, refl, sym, ap, ap₂, _∙_}
 use Prim.Native.Nat.{ℕ, zero, suc, _+_, _*_, _/_, _%_, _<_}
 use native.Mathlib.Nat.{add-zero, mod-lt, zero-lt-suc}
@@ -7,7 +7,7 @@ use lib.Arith.{bin-ind}
 use lib.Bits.{bitXor, differ, xor-step, xor-shr, xor-mod, xor-comm, xor-self, xor-zero-r, xor-block}
 use lib.Pow.{pow-pos}
 
--- a fact of each digit, from the two
+-- a fact of a binary digit, from its two cases
 pub digit : (P : ℕ → Type 0) → P 0 → P 1 → (x : ℕ) → x < 2 → P x
 digit P p q zero h = p
 digit P p q (suc zero) h = q
@@ -49,6 +49,6 @@ xor-back a b = xor-assoc a b b ∙ ap (bitXor a) (xor-self b) ∙ xor-zero-r a
 pub xor-cancel : (a b : ℕ) → bitXor a b ≡ 0 → a ≡ b
 xor-cancel a b h = sym (xor-back a b) ∙ ap (λ (x : ℕ). bitXor x b) h
 
--- eight zeros below both
+-- both shifted by eight bits
 pub xor-mul : (a b : ℕ) → bitXor a b * 256 ≡ bitXor (a * 256) (b * 256)
 xor-mul a b = sym (ap₂ bitXor (sym (add-zero (a * 256))) (sym (add-zero (b * 256))) ∙ xor-block 8 a b 0 0 (pow-pos 8) (pow-pos 8) ∙ add-zero (bitXor a b * 256))

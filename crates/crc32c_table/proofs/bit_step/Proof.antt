@@ -1,4 +1,4 @@
--- One bit step is the definition.
+-- `bit_step` meets its contract: one bit step is the definition.
 use borrow.Author.Needs.{needs}
 use mathlib.Core.Path.{refl}
 use Rattle.crc32c_format.specs.Crc.{bitStep}

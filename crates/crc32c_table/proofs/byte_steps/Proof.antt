@@ -1,4 +1,5 @@
--- Eight bit steps. The invariant: the steps to come, from the register so far, are all eight of x.
+-- `byte_steps` meets its contract. The invariant: the steps to come, from the register so far, are
+-- all eight of x.
 use borrow.Author.Needs.{needs}
 use native.Mathlib.Omega.{arith}
 use Prim.Native.Nat.{ℕ, _+_, _-_, _≤_}

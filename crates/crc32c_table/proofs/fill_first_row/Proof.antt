@@ -1,4 +1,4 @@
--- Row 0. The invariant: the first i entries are right.
+-- `fill_first_row` meets its contract. The invariant: the first i entries are right.
 use borrow.Author.Needs.{needs}
 use native.Mathlib.Omega.{arith}
 use Prim.Native.Nat.{_-_, _≤_}

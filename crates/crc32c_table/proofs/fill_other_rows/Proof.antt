@@ -1,4 +1,4 @@
--- The later rows. The invariant: the first i entries are right.
+-- `fill_other_rows` meets its contract. The invariant: the first i entries are right.
 use borrow.Author.Needs.{needs}
 use native.Mathlib.Omega.{arith}
 use Prim.Native.Nat.{_-_, _≤_}

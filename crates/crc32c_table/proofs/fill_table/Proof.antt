@@ -1,4 +1,4 @@
--- All entries are right, so the table is the definition.
+-- `fill_table` meets its contract: all entries are right, so the table is the definition.
 use borrow.Author.Needs.{needs}
 use Rattle.crc32c_format.specs.Method.Tables.{filled-all}
 use Rattle.crc32c_table.proofs.fill_table.Statement.{statement}

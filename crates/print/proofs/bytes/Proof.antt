@@ -1,4 +1,4 @@
--- `bytes` stays inside the slice, and ends.
+-- `bytes` stays inside the slice, and its loop ends.
 -- Assumes nothing.
 use borrow.Author.Needs.{needs}
 use Prim.Native.Nat.{_-_, _≤_}

@@ -1,4 +1,4 @@
--- The loop ends, and keeps the length.
+-- `count_up`: the loop ends, and keeps the length.
 -- Assumes nothing.
 use borrow.Author.Needs.{needs}
 use Prim.Native.Nat.{_-_}

@@ -1,4 +1,4 @@
--- The cut lies inside the segment.
+-- `read_cut`: the cut lies inside the segment.
 -- Assumes nothing.
 use borrow.Author.Needs.{needs}
 use native.Mathlib.Omega.{arith}

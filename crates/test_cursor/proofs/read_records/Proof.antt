@@ -1,4 +1,4 @@
--- The reads are counted, so they end.
+-- `read_records`: the reads are counted, so they end.
 -- Assumes nothing.
 use borrow.Author.Needs.{needs}
 use Prim.Native.Nat.{_-_}

@@ -1,4 +1,4 @@
--- The part that is lent lies inside the bytes.
+-- `write_record`: the part that is written lies inside the bytes.
 -- Assumes nothing.
 use borrow.Author.Needs.{needs}
 use native.Mathlib.Omega.{arith}

@@ -1,4 +1,4 @@
--- The writes are counted, so they end.
+-- `write_records`: the writes are counted, so they end.
 -- Assumes nothing.
 use borrow.Author.Needs.{needs}
 use Prim.Native.Nat.{_-_}

@@ -1,4 +1,4 @@
--- The parts that are printed and read lie inside the line and the segment.
+-- `answer_case`: the parts that are printed and read lie inside the line and the segment.
 -- Assumes nothing.
 use borrow.Author.Needs.{needs}
 use native.Mathlib.Omega.{arith}

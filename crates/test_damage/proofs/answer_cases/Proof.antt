@@ -1,4 +1,4 @@
--- Each line begins behind the last, so the loop ends.
+-- `answer_cases`: each line begins after the last, so the loop ends.
 -- Assumes nothing.
 use borrow.Author.Needs.{needs}
 use Prim.Native.Nat.{_-_, _≤_}

@@ -1,4 +1,5 @@
--- `read_groups` meets its contract. The loop's invariant, `Head`: what the bytes so far and those left say together.
+-- `read_groups` meets its contract. The loop's invariant, `Head`: what the bytes so far and those
+-- left encode together.
 use borrow.Author.Needs.{needs}
 use native.Mathlib.Omega.{arith}
 use Prim.Native.Nat.{_+_, _-_, _*_, _%_, _^_, _≤_, _<_}

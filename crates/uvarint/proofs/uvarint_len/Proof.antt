@@ -1,4 +1,4 @@
--- `uvarint_len` meets its contract: each answer's two tests are the bounds of one law.
+-- `uvarint_len` meets its contract: the two tests before each answer are the bounds of one law.
 use native.Mathlib.Omega.{arith}
 use mathlib.Core.Path.{sym}
 use Rattle.uvarint.specs.UvarintLaws.{length-one, length-exact}

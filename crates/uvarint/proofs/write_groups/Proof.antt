@@ -1,4 +1,5 @@
--- `write_groups` meets its contract. The loop's invariant: writing the groups that are left makes the whole.
+-- `write_groups` meets its contract. The loop's invariant: writing the groups that are left
+-- completes the number.
 use borrow.Author.Needs.{needs}
 use native.Mathlib.Omega.{arith}
 use Prim.Native.Nat.{ℕ, suc, _+_, _/_, _%_, _≤_}
@@ -19,7 +20,7 @@ Inv-loop buf₀ at n rest₀ i₀ buf rest i =
 abbrev μ-loop : tie.MeasureT-loop
 μ-loop buf₀ at n rest₀ i₀ buf rest i = rest
 
--- a turn's store, and then the groups that are left, are the groups there were
+-- the store of one turn, and then the groups that are left, are the groups before it
 turn : (d : List ℕ) (i n : ℕ) → 128 ≤ n → sets (set d i (n % 128 + 128)) (i + 1) (uvarint (n / 128)) ≡ sets d i (uvarint n)
 turn d i n h = rw (more-groups n h, add-one)
 

@@ -1,4 +1,4 @@
--- `put_varint` meets its contract: the zigzag's uvarint is put.
+-- `put_varint` meets its contract: the zigzag's uvarint is stored.
 use borrow.Author.Needs.{needs}
 use Prim.Native.Nat.{ℕ}
 use mathlib.Core.Path.{ap, _∙_}

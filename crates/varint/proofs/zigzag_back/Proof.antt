@@ -1,4 +1,4 @@
--- `zigzag_back` meets its contract: half of u, or −1 less it.
+-- `zigzag_back` meets its contract: half of u, or −1 − half of u.
 use borrow.Author.Needs.{needs}
 use native.Mathlib.Omega.{arith}
 use Prim.Native.Nat.{_/_, _^_, _<_}

@@ -1,4 +1,4 @@
--- The number never grows above the longest segment, so it does not wrap.
+-- `decimal`: the number never grows above the longest segment, so it does not wrap.
 -- Assumes nothing.
 use borrow.Author.Needs.{needs}
 use Prim.Native.Nat.{_-_, _≤_}

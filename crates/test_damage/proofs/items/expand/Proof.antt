@@ -1,4 +1,4 @@
--- Each item is put down behind the last, inside the segment.
+-- `expand` meets its contract: each item is stored after the last, inside the segment.
 -- Assumes nothing.
 use borrow.Author.Needs.{needs}
 use native.Mathlib.Omega.{arith}

@@ -1,4 +1,4 @@
--- The bytes lie inside the segment, whose length stays.
+-- `fill`: the bytes lie inside the segment, whose length stays.
 -- Assumes nothing.
 use borrow.Author.Needs.{needs}
 use Prim.Native.Nat.{_-_}

@@ -1,4 +1,4 @@
--- The search stays inside the slice.
+-- `behind_first` meets its contract: the search stays inside the slice.
 -- Assumes nothing.
 use borrow.Author.Needs.{needs}
 use Prim.Native.Nat.{_-_, _≤_}

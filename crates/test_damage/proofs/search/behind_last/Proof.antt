@@ -1,4 +1,4 @@
--- The search stays inside the slice.
+-- `behind_last` meets its contract: the search stays inside the slice.
 -- Assumes nothing.
 use borrow.Author.Needs.{needs}
 use Prim.Native.Nat.{_≤_}

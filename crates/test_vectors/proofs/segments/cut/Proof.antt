@@ -1,4 +1,4 @@
--- The parts that are read lie inside the slice.
+-- `cut`: the parts that are read lie inside the slice.
 -- Assumes nothing.
 use borrow.Author.Needs.{needs}
 use native.Mathlib.Omega.{arith}

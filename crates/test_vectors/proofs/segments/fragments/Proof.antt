@@ -1,4 +1,4 @@
--- At most four headers are looked at.
+-- `fragments`: at most four headers are printed, so the loop ends.
 -- Assumes nothing.
 use borrow.Author.Needs.{needs}
 use Prim.Native.Nat.{_-_, _≤_}

@@ -1,4 +1,4 @@
--- The array is filled to its end.
+-- `pattern`: the array is filled to its end.
 -- Assumes nothing.
 use borrow.Author.Needs.{needs}
 use mathlib.Core.Path.{_≡_}

@@ -1,4 +1,4 @@
--- The record is a part of the pattern.
+-- `write`: the record is a part of the pattern.
 -- Assumes nothing.
 use borrow.Author.Needs.{needs}
 use native.Mathlib.Omega.{arith}
