@@ -43,8 +43,8 @@ module _ (strings lengths b₀ : List ℕ) (at : ℕ) (b : List ℕ) (place from
   n : ℕ
   n = getD lengths i 0
 
-  text : List ℕ
-  text = take n (drop from strings)
+  string : List ℕ
+  string = take n (drop from strings)
 
   more : List ℕ
   more = rest strings lengths (from + n) (i + 1)
@@ -52,37 +52,37 @@ module _ (strings lengths b₀ : List ℕ) (at : ℕ) (b : List ℕ) (place from
   pub string-inside : from + getD lengths i 0 ≤ length strings
   string-inside = omega (arith, total-step lengths i h, l .left)
 
-  bytes : rest strings lengths from i ≡ (uvarint n ++ text) ++ more
-  unfolding stringsBytes stringBytes n text more
+  bytes : rest strings lengths from i ≡ (uvarint n ++ string) ++ more
+  unfolding stringsBytes stringBytes n string more
   bytes =
       ap stringsBytes (cut-step strings lengths from i h)
-      ∙ ap (λ (k : ℕ). (uvarint k ++ text) ++ more) (part-length strings from n string-inside)
+      ∙ ap (λ (k : ℕ). (uvarint k ++ string) ++ more) (part-length strings from n string-inside)
 
-  room₀ : place + length (uvarint n ++ text) ≤ length b
-  room₀ = omega (arith, l .end, l .size, ap length bytes, length-append (uvarint n ++ text) more)
+  room₀ : place + length (uvarint n ++ string) ≤ length b
+  room₀ = omega (arith, l .end, l .size, ap length bytes, length-append (uvarint n ++ string) more)
 
   one : Put b place (uvarint n) b₁ p
   unfolding n
-  one = put-first b b₁ place p (uvarint n) text room₀ e f
+  one = put-first b b₁ place p (uvarint n) string room₀ e f
 
   pub string-room : p + getD lengths i 0 ≤ length b₁
-  unfolding n text
-  string-room = omega (arith, room-then b b₁ place p (uvarint n) text room₀ one, part-length strings from n string-inside)
+  unfolding n string
+  string-room = omega (arith, room-then b b₁ place p (uvarint n) string room₀ one, part-length strings from n string-inside)
 
   pub string-laid : (b₂ : List ℕ) → b₂ ≡ sets b₁ p (take (getD lengths i 0) (drop from strings))
       → Laying strings lengths b₀ at b₂ (p + getD lengths i 0) (from + getD lengths i 0) (i + 1)
-  unfolding n text more
+  unfolding n string more
   string-laid b₂ g =
-      let two : Put b₁ p text b₂ (p + n) = (ap (λ (k : ℕ). p + k) (sym (part-length strings from n string-inside)), g) in
-      let both : Put b place (uvarint n ++ text) b₂ (p + n) = put-then b b₁ place p (uvarint n) text room₀ b₂ (p + n) one two in
+      let two : Put b₁ p string b₂ (p + n) = (ap (λ (k : ℕ). p + k) (sym (part-length strings from n string-inside)), g) in
+      let both : Put b place (uvarint n ++ string) b₂ (p + n) = put-then b b₁ place p (uvarint n) string room₀ b₂ (p + n) one two in
       record {
         inside = omega arith;
         left = omega (arith, total-step lengths i h, l .left);
-        size = ap length (both .1) ∙ length-sets b place (uvarint n ++ text) ∙ l .size;
-        end = omega (arith, both .0, l .end, ap length bytes, length-append (uvarint n ++ text) more);
+        size = ap length (both .1) ∙ length-sets b place (uvarint n ++ string) ∙ l .size;
+        end = omega (arith, both .0, l .end, ap length bytes, length-append (uvarint n ++ string) more);
         same =
             ap₂ (λ (x : List ℕ) (y : ℕ). sets x y more) (both .1) (both .0)
-            ∙ sets-append (uvarint n ++ text) more b place
+            ∙ sets-append (uvarint n ++ string) more b place
             ∙ ap (sets b place) (sym bytes)
             ∙ l .same;
       }

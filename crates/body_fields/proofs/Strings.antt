@@ -10,7 +10,7 @@ use Rattle.wal_types.specs.declared.Refusal.{Refusal}
 use Rattle.body_format.specs.Fields.{Field, got, fault, andThen, StringField, uvarintAt, stringAt, stringsAt, stringListAt}
 use Rattle.body_format.specs.Laws.Fields.{string-got}
 use Rattle.body_format.specs.Laws.Bounds.{of-got, uvarint-ahead, strings-ahead}
-use Rattle.body_fields.specs.declared.StringRead.the-variants as text
+use Rattle.body_fields.specs.declared.StringRead.the-variants as string
 use Rattle.body_fields.specs.declared.StringListRead.{StringListRead}
 use Rattle.body_fields.specs.declared.StringListRead.the-variants as list
 use Rattle.body_fields.specs.declared.Place.{Place}
@@ -24,9 +24,9 @@ uvarint-inside s p n q e = of-got _ (uvarintAt s p) n q (uvarint-ahead s p) e .1
 
 -- ---- a string, and two
 
-pub string-whole : (s : List ℕ) (p n q : ℕ) → uvarintAt s p ≡ got n q → n ≤ length s - q → text.Got q n (q + n) ≡ stringRead (stringAt s p)
+pub string-whole : (s : List ℕ) (p n q : ℕ) → uvarintAt s p ≡ got n q → n ≤ length s - q → string.Got q n (q + n) ≡ stringRead (stringAt s p)
 string-whole s p n q e h =
-    ap (λ (k : ℕ). text.Got q k (q + n)) (sym (length-take-le n (drop q s) (omega (arith, length-drop q s))))
+    ap (λ (k : ℕ). string.Got q k (q + n)) (sym (length-take-le n (drop q s) (omega (arith, length-drop q s))))
     ∙ sym (ap stringRead (string-got s p n q e h))
 
 module _ (s : List ℕ) (p : ℕ) where

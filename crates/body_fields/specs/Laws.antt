@@ -23,7 +23,7 @@ use Rattle.body_fields.specs.declared.NumberRead.the-variants as number
 use Rattle.body_fields.specs.declared.SignedRead.{SignedRead}
 use Rattle.body_fields.specs.declared.SignedRead.the-variants as signed
 use Rattle.body_fields.specs.declared.StringRead.{StringRead}
-use Rattle.body_fields.specs.declared.StringRead.the-variants as text
+use Rattle.body_fields.specs.declared.StringRead.the-variants as string
 use Rattle.body_fields.specs.declared.StringListRead.{StringListRead}
 use Rattle.body_fields.specs.declared.StringListRead.the-variants as list
 use Rattle.body_fields.specs.Readings.{numberRead, signedRead, stringRead, stringListRead}
@@ -50,12 +50,12 @@ pub signed-fault : (f : Field ℤ) (r : SignedRead) {why : Refusal}
 signed-fault (got m p) r e g = never cc
 signed-fault (fault w) r e g = cc
 
-pub string-told : (f : Field StringField) (r : StringRead) {start size q : ℕ} → r ≡ stringRead f → r ≡ text.Got start size q
+pub string-told : (f : Field StringField) (r : StringRead) {start size q : ℕ} → r ≡ stringRead f → r ≡ string.Got start size q
     → (t : StringField) × (f ≡ got t q) × (t .start ≡ start) × (length (t .bytes) ≡ size)
 string-told (got t p) r e g = (t, cc, cc, cc)
 string-told (fault w) r e g = never cc
 
-pub string-faulty : (f : Field StringField) (r : StringRead) {why : Refusal} → r ≡ stringRead f → r ≡ text.Fault why → f ≡ fault why
+pub string-faulty : (f : Field StringField) (r : StringRead) {why : Refusal} → r ≡ stringRead f → r ≡ string.Fault why → f ≡ fault why
 string-faulty (got m p) r e g = never cc
 string-faulty (fault w) r e g = cc
 

@@ -10,7 +10,7 @@ use Rattle.body_fields.specs.declared.NumberRead.the-variants as number
 use Rattle.body_fields.specs.declared.SignedRead.{SignedRead}
 use Rattle.body_fields.specs.declared.SignedRead.the-variants as signed
 use Rattle.body_fields.specs.declared.StringRead.{StringRead}
-use Rattle.body_fields.specs.declared.StringRead.the-variants as text
+use Rattle.body_fields.specs.declared.StringRead.the-variants as string
 use Rattle.body_fields.specs.declared.StringListRead.{StringListRead}
 use Rattle.body_fields.specs.declared.StringListRead.the-variants as list
 
@@ -23,8 +23,8 @@ signedRead (got x next) = signed.Got x next
 signedRead (fault why) = signed.Fault why
 
 abbrev pub stringRead : Field StringField → StringRead
-stringRead (got t next) = text.Got (t .start) (length (t .bytes)) next
-stringRead (fault why) = text.Fault why
+stringRead (got t next) = string.Got (t .start) (length (t .bytes)) next
+stringRead (fault why) = string.Fault why
 
 abbrev pub stringListRead : Field StringList → StringListRead
 stringListRead (got l next) = list.Got (length (l .strings)) (l .first) next

@@ -29,7 +29,8 @@ pub record Demand1 (C : BodyCalls) : Type 0 where
       → (u ≤ n) × (n ≤ length b) × (length (C .add b t u a .buffer) ≡ length b)
       × (take u (C .add b t u a .buffer) ≡ take u b) × (drop n (C .add b t u a .buffer) ≡ drop n b)
 
--- the numbers of an addition have 64 bits, and a metric type is a byte, as the calls' types say
+-- the numbers of an addition have 64 bits, and a metric type is a byte, as the calls' types say;
+-- `mag` of n and of −(n + 1) is n, so −2^63 is in range
 abbrev pub InRange : Addition → Type 0
 InRange (addSeries id bytes lengths) = id < 2 ^ 64
 InRange (addSample id time v) = (id < 2 ^ 64) × (mag time < 2 ^ 63) × (v < 2 ^ 64)

@@ -137,7 +137,7 @@ fresh = 2 ∷ replicate 26 0
 abbrev seven : Addition
 seven = addSample 7 (pos 0) 0
 
--- reading back alone does not find it: the sample comes out as it was put in
+-- an example that reading back alone does not find it: the sample comes out as it was put in
 pub shifted-walks : Walks readEntry readString (shiftsFirst fresh 2 1 seven .buffer) 1 (entryFor seven ∷ [])
 unfolding add badState bodyTypeOf entryBytes rowBytes be8 be4 uvarint groups minus plus toBits fromBits readEntry entryOrEnd badPlace fixedAt sampleAt rowAt uvarintAt readUvarint readGroups after readBe8 readBe4
 shifted-walks = next 27 refl tt (done refl)

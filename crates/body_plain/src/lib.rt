@@ -152,8 +152,8 @@ fn metadata_end(body: &[u8], at: usize) -> Place
 // ---- an entry of any of them
 
 // The entry at a place of a body, or the plain end at the body's end.
-pub fn plain_entry(body: &[u8], tag: PlainType, at: usize) -> EntryAnswer
-    ensures { λ r. ⌜ r ≡ entryKnown (known (plainIn tag)) (now (body .entry)) at ⌝ }
+pub fn plain_entry(body: &[u8], plain: PlainType, at: usize) -> EntryAnswer
+    ensures { λ r. ⌜ r ≡ entryKnown (known (plainIn plain)) (now (body .entry)) at ⌝ }
 {
     if at == 0 {
         return EntryAnswer::Refused(Refusal::BadPlace);
@@ -164,7 +164,7 @@ pub fn plain_entry(body: &[u8], tag: PlainType, at: usize) -> EntryAnswer
     if at == body.len() {
         return EntryAnswer::End;
     }
-    match tag {
+    match plain {
         PlainType::Series => series_at(body, at),
         PlainType::Tombstones => tombstone_at(body, at),
         PlainType::Metadata => metadata_at(body, at),
@@ -172,10 +172,10 @@ pub fn plain_entry(body: &[u8], tag: PlainType, at: usize) -> EntryAnswer
 }
 
 // The place after the entry at a place.
-pub fn plain_end(body: &[u8], tag: PlainType, at: usize) -> Place
-    ensures { λ r. ⌜ r ≡ endOf (entryAt (plainIn tag) (now (body .entry)) at) ⌝ }
+pub fn plain_end(body: &[u8], plain: PlainType, at: usize) -> Place
+    ensures { λ r. ⌜ r ≡ endOf (entryAt (plainIn plain) (now (body .entry)) at) ⌝ }
 {
-    match tag {
+    match plain {
         PlainType::Series => series_end(body, at),
         PlainType::Tombstones => tombstone_end(body, at),
         PlainType::Metadata => metadata_end(body, at),

@@ -26,8 +26,8 @@ pub fn check(body: &[u8]) -> CheckAnswer
     ensures { λ r. ⌜ r ≡ checkBody (now (body .entry)) ⌝ }
 {
     match body_type(body) {
-        TypeRead::Known(tag) => match entries_begin(body, tag) {
-            Place::At(first) => count_entries(body, tag, first),
+        TypeRead::Known(layout) => match entries_begin(body, layout) {
+            Place::At(first) => count_entries(body, layout, first),
             Place::Fault(why) => CheckAnswer::Refused(why),
         },
         TypeRead::Refused(why) => CheckAnswer::Refused(why),
@@ -41,7 +41,7 @@ pub fn entry_at(body: &[u8], place: Offset) -> EntryAnswer
 {
     let at = place.0;
     match body_type(body) {
-        TypeRead::Known(tag) => match tag {
+        TypeRead::Known(layout) => match layout {
             BodyLayout::Rows { labelled } => row_entry(body, labelled, at),
             BodyLayout::Plain(plain) => plain_entry(body, plain, at),
         },

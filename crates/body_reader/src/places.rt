@@ -15,35 +15,35 @@ ghost use Rattle.body_rows.specs.Rows.{placeRead};
 ghost use Rattle.body_reader.specs.Layouts.{typeIn};
 
 // Where the entries of a type begin.
-pub(crate) fn entries_begin(body: &[u8], tag: BodyLayout) -> Place
-    ensures { λ r. ⌜ r ≡ placeRead (firstAt (hasRows (typeIn tag)) (now (body .entry))) ⌝ }
+pub(crate) fn entries_begin(body: &[u8], layout: BodyLayout) -> Place
+    ensures { λ r. ⌜ r ≡ placeRead (firstAt (hasRows (typeIn layout)) (now (body .entry))) ⌝ }
 {
-    match tag {
+    match layout {
         BodyLayout::Rows { labelled: _ } => rows_begin(body),
         BodyLayout::Plain(_) => Place::At(1),
     }
 }
 
 // The place after the entry at a place.
-fn entry_end(body: &[u8], tag: BodyLayout, at: usize) -> Place
-    ensures { λ r. ⌜ r ≡ endOf (entryAt (typeIn tag) (now (body .entry)) at) ⌝ }
+fn entry_end(body: &[u8], layout: BodyLayout, at: usize) -> Place
+    ensures { λ r. ⌜ r ≡ endOf (entryAt (typeIn layout) (now (body .entry)) at) ⌝ }
 {
-    match tag {
+    match layout {
         BodyLayout::Rows { labelled } => row_entry_end(body, labelled, at),
         BodyLayout::Plain(plain) => plain_end(body, plain, at),
     }
 }
 
 // How many entries there are from a place to the end of the body.
-pub(crate) fn count_entries(body: &[u8], tag: BodyLayout, first: usize) -> CheckAnswer
+pub(crate) fn count_entries(body: &[u8], layout: BodyLayout, first: usize) -> CheckAnswer
     requires { ⌜ (0 < first) × (first ≤ length (now body)) ⌝ }
     ensures { λ r. ⌜
-        r ≡ checkFields (entriesFrom (length (now (body .entry))) (typeIn tag) (now (body .entry)) first) ⌝ }
+        r ≡ checkFields (entriesFrom (length (now (body .entry))) (typeIn layout) (now (body .entry)) first) ⌝ }
 {
     let mut at = first;
     let mut count: usize = 0;
     while at < body.len() {
-        match entry_end(body, tag, at) {
+        match entry_end(body, layout, at) {
             Place::At(next) => {
                 at = next;
                 count += 1;

@@ -61,7 +61,9 @@ fn copy_long(source: &[u8], from: usize, count: usize, to: &mut [u8], at: usize)
 // set one up would take longer than to copy them.
 fn copy_front(source: &[u8], from: usize, count: usize, to: &mut [u8], at: usize)
     requires { ⌜ (16 ≤ count) × (from + count ≤ length (now source)) × (at + count ≤ length (now to)) ⌝ }
-    ensures { λ r. ⌜ sets (now (to .exit)) (at + (count - 16)) (take 16 (drop (from + (count - 16)) (now (source .entry)))) ≡ sets (now (to .entry)) at (take count (drop from (now (source .entry)))) ⌝ }
+    ensures { λ r. ⌜ sets (now (to .exit)) (at + (count - 16))
+        (take 16 (drop (from + (count - 16)) (now (source .entry)))) ≡ sets (now (to .entry)) at
+        (take count (drop from (now (source .entry)))) ⌝ }
 {
     if count <= 2 * CHUNK {
         copy16(source, from, to, at);
@@ -78,7 +80,8 @@ fn copy_front(source: &[u8], from: usize, count: usize, to: &mut [u8], at: usize
 // lines takes longer, and a slice mostly starts at a multiple of 16 in memory.
 fn copy_aligned(source: &[u8], from: usize, count: usize, to: &mut [u8], at: usize)
     requires { ⌜ (48 < count) × (from + count ≤ length (now source)) × (at + count ≤ length (now to)) ⌝ }
-    ensures { λ r. ⌜ now (to .exit) ≡ sets (now (to .entry)) at (take (16 - at % 16 + (count - (16 - at % 16)) / 16 * 16) (drop from (now (source .entry)))) ⌝ }
+    ensures { λ r. ⌜ now (to .exit) ≡ sets (now (to .entry)) at
+        (take (16 - at % 16 + (count - (16 - at % 16)) / 16 * 16) (drop from (now (source .entry)))) ⌝ }
 {
     copy16(source, from, to, at);
     let skip = CHUNK - at % CHUNK;
@@ -91,7 +94,8 @@ fn copy_aligned(source: &[u8], from: usize, count: usize, to: &mut [u8], at: usi
 // The whole chunks of `count` bytes.
 fn copy_chunks(source: &[u8], from: usize, count: usize, to: &mut [u8], at: usize)
     requires { ⌜ (from + count ≤ length (now source)) × (at + count ≤ length (now to)) ⌝ }
-    ensures { λ r. ⌜ now (to .exit) ≡ sets (now (to .entry)) at (take (count / 16 * 16) (drop from (now (source .entry)))) ⌝ }
+    ensures { λ r. ⌜ now (to .exit) ≡ sets (now (to .entry)) at
+        (take (count / 16 * 16) (drop from (now (source .entry)))) ⌝ }
 {
     let mut i = 0;
     while CHUNK <= count - i {

@@ -110,7 +110,8 @@ fn step8(t: &[u32; 256], state: u32, s: &[u8], at: usize) -> u32
 // the rest.
 fn eights(t: &[u32; 256], state: u32, s: &[u8]) -> u32
     requires { ⌜ now t ≡ nibbleTable ⌝ }
-    ensures { λ r. ⌜ register r (drop (eightsEnd (now (s .entry))) (now (s .entry))) ≡ register state (now (s .entry)) ⌝ }
+    ensures { λ r. ⌜ register r (drop (eightsEnd (now (s .entry))) (now (s .entry))) ≡ register state
+        (now (s .entry)) ⌝ }
 {
     let n = s.len();
     let mut c = state;
@@ -124,7 +125,8 @@ fn eights(t: &[u32; 256], state: u32, s: &[u8]) -> u32
 
 fn four(t: &[u32; 256], state: u32, s: &[u8]) -> u32
     requires { ⌜ now t ≡ nibbleTable ⌝ }
-    ensures { λ r. ⌜ register r (drop (foursEnd (now (s .entry))) (now (s .entry))) ≡ register state (drop (eightsEnd (now (s .entry))) (now (s .entry))) ⌝ }
+    ensures { λ r. ⌜ register r (drop (foursEnd (now (s .entry))) (now (s .entry))) ≡ register state
+        (drop (eightsEnd (now (s .entry))) (now (s .entry))) ⌝ }
 {
     let n = s.len();
     if 4 <= n % 8 {
@@ -391,7 +393,8 @@ fn table_eights(t: &[u32], state: u32, s: &[u8]) -> u32
 
 fn table_four(t: &[u32], state: u32, s: &[u8], at: usize) -> u32
     requires { ⌜ (2048 ≤ length (now t)) × (at ≤ length (now s)) × (length (now s) - at < 8) ⌝ }
-    ensures { λ r. ⌜ r ≡ steps 4 (tableStep4 (now (t .entry))) ((length (now (s .entry)) - at) / 4) state (drop at (now (s .entry))) ⌝ }
+    ensures { λ r. ⌜ r ≡ steps 4 (tableStep4 (now (t .entry))) ((length (now (s .entry)) - at) / 4) state
+        (drop at (now (s .entry))) ⌝ }
 {
     if 4 <= s.len() - at {
         table_step4(t, state, s, at)
@@ -402,7 +405,8 @@ fn table_four(t: &[u32], state: u32, s: &[u8], at: usize) -> u32
 
 fn table_singles(t: &[u32], state: u32, s: &[u8], at: usize) -> u32
     requires { ⌜ (2048 ≤ length (now t)) × (at ≤ length (now s)) ⌝ }
-    ensures { λ r. ⌜ r ≡ steps 1 (tableStep1 (now (t .entry))) (length (now (s .entry)) - at) state (drop at (now (s .entry))) ⌝ }
+    ensures { λ r. ⌜ r ≡ steps 1 (tableStep1 (now (t .entry))) (length (now (s .entry)) - at) state
+        (drop at (now (s .entry))) ⌝ }
 {
     let n = s.len();
     let mut c = state;

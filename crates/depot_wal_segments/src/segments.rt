@@ -18,9 +18,12 @@ fn read_to_out(
     out: &mut [u64; 3],
 ) -> u32
     ensures { λ r. ⌜
-        (r ≡ readCode (reader (tableSum (now (table .entry))) (now (segment .entry)) place (now (buffer .entry)) .answer))
-        × (now (out .exit) ≡ readOut (reader (tableSum (now (table .entry))) (now (segment .entry)) place (now (buffer .entry)) .answer))
-        × (now (buffer .exit) ≡ reader (tableSum (now (table .entry))) (now (segment .entry)) place (now (buffer .entry)) .buffer) ⌝ }
+        (r ≡ readCode (reader (tableSum (now (table .entry))) (now (segment .entry)) place
+        (now (buffer .entry)) .answer))
+        × (now (out .exit) ≡ readOut
+        (reader (tableSum (now (table .entry))) (now (segment .entry)) place (now (buffer .entry)) .answer))
+        × (now (buffer .exit) ≡ reader (tableSum (now (table .entry))) (now (segment .entry)) place
+        (now (buffer .entry)) .buffer) ⌝ }
 {
     let answer = segment_reader::read_with_table(&table[0..], &segment[0..], Offset(place), buffer);
     read_result(answer, out)
@@ -35,9 +38,12 @@ fn write_to_out(
     out: &mut [u64; 2],
 ) -> u32
     ensures { λ r. ⌜
-        (r ≡ writeCode (writer (tableSum (now (table .entry))) (now (segment .entry)) place (now («record» .entry)) .answer))
-        × (now (out .exit) ≡ writeOut place (writer (tableSum (now (table .entry))) (now (segment .entry)) place (now («record» .entry)) .answer))
-        × (now (segment .exit) ≡ writer (tableSum (now (table .entry))) (now (segment .entry)) place (now («record» .entry)) .slice) ⌝ }
+        (r ≡ writeCode (writer (tableSum (now (table .entry))) (now (segment .entry)) place
+        (now («record» .entry)) .answer))
+        × (now (out .exit) ≡ writeOut place
+        (writer (tableSum (now (table .entry))) (now (segment .entry)) place (now («record» .entry)) .answer))
+        × (now (segment .exit) ≡ writer (tableSum (now (table .entry))) (now (segment .entry)) place
+        (now («record» .entry)) .slice) ⌝ }
 {
     let answer = segment_writer::write_with_table(
         &table[0..],
@@ -58,7 +64,8 @@ pub extern "C" fn depot_wal_write(
 ) -> u32
     ensures { λ r. ⌜
         (r ≡ writeCode (writer crcSum (now (segment .entry)) place (now («record» .entry)) .answer))
-        × (now (out .exit) ≡ writeOut place (writer crcSum (now (segment .entry)) place (now («record» .entry)) .answer))
+        × (now (out .exit) ≡ writeOut place
+        (writer crcSum (now (segment .entry)) place (now («record» .entry)) .answer))
         × (now (segment .exit) ≡ writer crcSum (now (segment .entry)) place (now («record» .entry)) .slice) ⌝ }
 {
     write_to_out(&crc32c::NO_TABLE, segment, place, record, out)
@@ -90,9 +97,12 @@ pub extern "C" fn depot_wal_write_with_table(
     out: &mut [u64; 2],
 ) -> u32
     ensures { λ r. ⌜
-        (r ≡ writeCode (writer (tableSum (now (table .entry))) (now (segment .entry)) place (now («record» .entry)) .answer))
-        × (now (out .exit) ≡ writeOut place (writer (tableSum (now (table .entry))) (now (segment .entry)) place (now («record» .entry)) .answer))
-        × (now (segment .exit) ≡ writer (tableSum (now (table .entry))) (now (segment .entry)) place (now («record» .entry)) .slice) ⌝ }
+        (r ≡ writeCode (writer (tableSum (now (table .entry))) (now (segment .entry)) place
+        (now («record» .entry)) .answer))
+        × (now (out .exit) ≡ writeOut place
+        (writer (tableSum (now (table .entry))) (now (segment .entry)) place (now («record» .entry)) .answer))
+        × (now (segment .exit) ≡ writer (tableSum (now (table .entry))) (now (segment .entry)) place
+        (now («record» .entry)) .slice) ⌝ }
 {
     write_to_out(table, segment, place, record, out)
 }
@@ -107,9 +117,12 @@ pub extern "C" fn depot_wal_read_with_table(
     out: &mut [u64; 3],
 ) -> u32
     ensures { λ r. ⌜
-        (r ≡ readCode (reader (tableSum (now (table .entry))) (now (segment .entry)) place (now (buffer .entry)) .answer))
-        × (now (out .exit) ≡ readOut (reader (tableSum (now (table .entry))) (now (segment .entry)) place (now (buffer .entry)) .answer))
-        × (now (buffer .exit) ≡ reader (tableSum (now (table .entry))) (now (segment .entry)) place (now (buffer .entry)) .buffer) ⌝ }
+        (r ≡ readCode (reader (tableSum (now (table .entry))) (now (segment .entry)) place
+        (now (buffer .entry)) .answer))
+        × (now (out .exit) ≡ readOut
+        (reader (tableSum (now (table .entry))) (now (segment .entry)) place (now (buffer .entry)) .answer))
+        × (now (buffer .exit) ≡ reader (tableSum (now (table .entry))) (now (segment .entry)) place
+        (now (buffer .entry)) .buffer) ⌝ }
 {
     read_to_out(table, segment, place, buffer, out)
 }

@@ -12,7 +12,7 @@ mod lines;
 mod list;
 
 fn main() {
-    kinds();
+    types();
     switches();
     deltas();
     rows();
@@ -22,7 +22,7 @@ fn main() {
 
 // No byte; an unknown type; a series body; a samples body without an entry; one that ends before
 // its first time.
-fn kinds() {
+fn types() {
     show(b"");
     show(b"\x05");
     show(b"\x01");

@@ -21,10 +21,10 @@ returns-2 c = bad-past _ _ _ (c .if2 .taken)
 -- an entry, or the end, at this place
 here : (c : tie.Else2) →
     let a = c .before .before .before .args in
-    let k = plainIn (a .tag) in
+    let k = plainIn (a .plain) in
     entryKnown (known k) (a .body .now) (a .at) ≡ entryOrEnd k (a .body .now) (a .at)
 here c =
-    plain-here _ _ _ (plain-plain (c .before .before .before .args .tag))
+    plain-here _ _ _ (plain-plain (c .before .before .before .args .plain))
     (omega (arith, c .before .if1 .left)) (c .if2 .left)
 
 returns-3 : tie.Need-returns-3

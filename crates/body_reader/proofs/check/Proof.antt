@@ -25,8 +25,8 @@ count-entries-requires c κs =
     let found = begin .before .before in
     let type = found .before .before in
     let body = type .before .before .args .body .now in
-    first-inside (hasRows (typeIn (found .tag .given .0 .0))) body
-    (known-some body _ (type .body-type .ensures) (found .tag .given .1))
+    first-inside (hasRows (typeIn (found .layout .given .0 .0))) body
+    (known-some body _ (type .body-type .ensures) (found .layout .given .1))
     (place-at _ _ (begin .entries-begin .ensures) (c .before .first .given .1))
 
 returns : tie.Need-returns
@@ -36,8 +36,8 @@ returns c =
     let type = found .before .before in
     let body = type .before .before .args .body .now in
     c .count-entries .ensures
-    ∙ check-all (typeIn (found .tag .given .0 .0)) body
-    (known-check body (type .body-type .ensures) (found .tag .given .1))
+    ∙ check-all (typeIn (found .layout .given .0 .0)) body
+    (known-check body (type .body-type .ensures) (found .layout .given .1))
     (place-at _ _ (begin .entries-begin .ensures) (c .before .before .first .given .1))
 
 returns-2 : tie.Need-returns-2
@@ -46,8 +46,8 @@ returns-2 c =
     let found = begin .before .before in
     let type = found .before .before in
     let body = type .before .before .args .body .now in
-    check-fault (typeIn (found .tag .given .0 .0)) body
-    (known-check body (type .body-type .ensures) (found .tag .given .1))
+    check-fault (typeIn (found .layout .given .0 .0)) body
+    (known-check body (type .body-type .ensures) (found .layout .given .1))
     (place-fault _ _ (begin .entries-begin .ensures) (c .before .why .given .1))
 
 returns-3 : tie.Need-returns-3

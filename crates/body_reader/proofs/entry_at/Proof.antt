@@ -24,14 +24,14 @@ returns c =
     let found = c .before .before .before .before .before in
     let type = found .before .before in
     c .row-entry .ensures
-    ∙ sym (known-entry _ _ (type .body-type .ensures) (found .tag .given .1) (c .before .before .tag2 .given .1))
+    ∙ sym (known-entry _ _ (type .body-type .ensures) (found .layout .given .1) (c .before .before .layout2 .given .1))
 
 returns-2 : tie.Need-returns-2
 returns-2 c =
     let found = c .before .before .before .before .before in
     let type = found .before .before in
     c .plain-entry .ensures
-    ∙ sym (known-entry _ _ (type .body-type .ensures) (found .tag .given .1) (c .before .before .tag3 .given .1))
+    ∙ sym (known-entry _ _ (type .body-type .ensures) (found .layout .given .1) (c .before .before .layout3 .given .1))
 
 returns-3 : tie.Need-returns-3
 returns-3 c =

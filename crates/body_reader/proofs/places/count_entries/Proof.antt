@@ -12,22 +12,22 @@ use Rattle.body_reader.proofs.places.count_entries.Statement.{statement
 use Rattle.body_reader.proofs.places.count_entries.Tie as tie
 
 abbrev Inv-loop : tie.InvT-loop
-Inv-loop body tag first at₀ count₀ at count = Counting (typeIn tag) body first at count
+Inv-loop body layout first at₀ count₀ at count = Counting (typeIn layout) body first at count
 
 abbrev μ-loop : tie.MeasureT-loop
-μ-loop body tag first at₀ count₀ at count = length body - at
+μ-loop body layout first at₀ count₀ at count = length body - at
 
 turn : (c : tie.After-entry-end Inv-loop μ-loop) →
     let a = c .before .before .before .before .args in
     let l = c .before .before .loop in
-    EndTold (typeIn (a .tag)) (a .body .now) (a .first) (l .at) (l .count) (c .entry-end .result)
+    EndTold (typeIn (a .layout)) (a .body .now) (a .first) (l .at) (l .count) (c .entry-end .result)
 turn c = end-turn _ _ _ _ _ (c .before .before .loop .inv) (omega arith) _ (c .entry-end .ensures)
 
 -- one entry more
 found : (c : tie.After-next Inv-loop μ-loop) →
     let a = c .before .before .before .before .before .before .args in
     let l = c .before .before .before .before .loop in
-    EndTold (typeIn (a .tag)) (a .body .now) (a .first) (l .at) (l .count) (At (c .next .given .0 .0))
+    EndTold (typeIn (a .layout)) (a .body .now) (a .first) (l .at) (l .count) (At (c .next .given .0 .0))
 found c = subst (EndTold _ _ _ _ _) (c .next .given .1) (turn (c .before .before))
 
 loop-holds : tie.Need-loop-holds Inv-loop μ-loop

@@ -4,10 +4,10 @@ use Rattle.body_reader.proofs.places.entry_end.Statement.{statement}
 use Rattle.body_reader.proofs.places.entry_end.Tie as tie
 
 returns : tie.Need-returns
-returns c = rw (c .before .before .tag .given .1) (c .row-entry-end .ensures)
+returns c = rw (c .before .before .layout .given .1) (c .row-entry-end .ensures)
 
 returns-2 : tie.Need-returns-2
-returns-2 c = rw (c .before .before .tag2 .given .1) (c .plain-end .ensures)
+returns-2 c = rw (c .before .before .layout2 .given .1) (c .plain-end .ensures)
 
 pub entry-end-spec : {M : Type 1} → statement M
 entry-end-spec =
