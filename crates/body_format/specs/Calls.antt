@@ -120,8 +120,8 @@ bodyCalls = record { start = starter; add = builder; check = checkBody; entry = 
 abbrev pub Strings : StringReader → List ℕ → ℕ → List (List ℕ) → Type 0
 Strings S s p [] = Unit {0}
 Strings S s p (t ∷ ts) =
-    (from : ℕ) × (S s p ≡ StringFound (offset from) (length t)) × (take (length t) (drop from s) ≡ t) × Strings S s
-    (from + length t) ts
+    (from : ℕ) × (S s p ≡ StringFound (offset from) (length t)) × (take (length t) (drop from s) ≡ t)
+    × Strings S s (from + length t) ts
 
 abbrev pub stringsOf : Entry → List (List ℕ)
 stringsOf (seriesEntry id ts) = ts

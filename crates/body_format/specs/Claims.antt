@@ -44,8 +44,8 @@ AllInRange (a ∷ rest) = InRange a × AllInRange rest
 
 -- the bytes of the body that a list of additions makes in buffer b, from a start with tag t
 abbrev pub bodyMade : BodyCalls → List ℕ → ℕ → List Addition → List ℕ
-bodyMade C b t xs = take (finalUsed (C .add) t (C .start b t .buffer) 1 xs)
-    (finalBuffer (C .add) t (C .start b t .buffer) 1 xs)
+bodyMade C b t xs =
+    take (finalUsed (C .add) t (C .start b t .buffer) 1 xs) (finalBuffer (C .add) t (C .start b t .buffer) 1 xs)
 
 -- DEMAND 2, for bodies
 pub record Demand2 (C : BodyCalls) : Type 0 where

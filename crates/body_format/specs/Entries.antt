@@ -102,8 +102,8 @@ seriesAt s p =
 
 -- 2: a row
 unfoldable pub sampleAt : List ℕ → ℕ → Field Placed
-sampleAt s p = andThen (rowAt s p)
-    (λ r next. got (record { entry = sampleEntry (r .id) (r .time) (r .bits); first = next }) next)
+sampleAt s p =
+    andThen (rowAt s p) (λ r next. got (record { entry = sampleEntry (r .id) (r .time) (r .bits); first = next }) next)
 
 -- 3: id (8), min and max time, each a signed varint
 unfoldable pub tombstoneAt : List ℕ → ℕ → Field Placed

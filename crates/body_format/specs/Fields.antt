@@ -82,5 +82,5 @@ pub record StringList : Type 0 where
 -- a count n (uvarint), and then 2n strings (FORMAT 9.2)
 unfoldable pub stringListAt : List ℕ → ℕ → Field StringList
 stringListAt s p =
-    andThen (uvarintAt s p)
-    (λ n q. andThen (stringsAt (2 * n) s q) (λ ts r. got (record { first = q; strings = ts }) r))
+    andThen (uvarintAt s p) (λ n q.
+    andThen (stringsAt (2 * n) s q) (λ ts r. got (record { first = q; strings = ts }) r))

@@ -27,8 +27,8 @@ unfoldable pub tableStep4 : List ℕ → ℕ → List ℕ → ℕ
 tableStep4 t c s = lookUp4 t 0 (bitXor c (littleEndian (take 4 s)))
 
 unfoldable pub tableStep8 : List ℕ → ℕ → List ℕ → ℕ
-tableStep8 t c s = bitXor (lookUp4 t 0 (littleEndian (take 4 (drop 4 s))))
-    (lookUp4 t 4 (bitXor c (littleEndian (take 4 s))))
+tableStep8 t c s =
+    bitXor (lookUp4 t 0 (littleEndian (take 4 (drop 4 s)))) (lookUp4 t 4 (bitXor c (littleEndian (take 4 s))))
 
 -- the register after n steps of w bytes each
 unfoldable pub steps : ℕ → (ℕ → List ℕ → ℕ) → ℕ → ℕ → List ℕ → ℕ
