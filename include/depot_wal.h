@@ -75,15 +75,16 @@
  *   brings the bytes from the old place to the new one to the medium, in the order of their
  *   offsets. The promise about a power failure (docs/FORMAT.md) is about bytes that were stored in
  *   that order, and about reading exactly those that are there: pass their number as segment_len,
- *   not the size of a file that was made long beforehand.
+ *   not the size of a file that was made long beforehand. The library does no I/O: a record is safe
+ *   once the caller has flushed it.
  *
  * Resuming after a power failure (examples/switch.c does it)
  *   Read from place 0 until a read does not return DEPOT_WAL_DONE. It returns
  *   DEPOT_WAL_TORN  Resume writing at the place of the error, over the truncated record. Truncate
  *                   the medium there first: a second power failure must not leave old bytes after
  *                   new ones.
- *   DEPOT_WAL_END   Resume after the last record. Where 1 to 6 bytes are left in its page, set
- *                   them to zero and resume at the next page.
+ *   DEPOT_WAL_END   Resume after the last record, at 0 if there is none. Where 1 to 6 bytes are
+ *                   left in its page, set them to zero and resume at the next page.
  *   otherwise       These bytes are not a log of this library that was cut off: they are corrupt,
  *                   or of another program. Keep them for whoever looks into it, and start a new
  *                   segment.
@@ -198,7 +199,7 @@ struct depot_wal_built {
 struct depot_wal_record {
     uint64_t start;  /* the place of its first fragment; on an error: the place of the error */
     uint64_t length; /* its bytes, which are the first of the buffer */
-    uint64_t next;   /* the place after it, for the next read */
+    uint64_t next;   /* the place after it, for the next read; for a write see "Resuming" above */
 };
 
 /* Of the check of a body. */
@@ -210,7 +211,7 @@ struct depot_wal_count {
 struct depot_wal_entry {
     uint64_t type;       /* of enum depot_wal_type; on an error: the place of the error */
     uint64_t id;         /* series id */
-    int64_t time;        /* time, or a tombstone's min */
+    int64_t time;        /* time (milliseconds, for Prometheus), or a tombstone's min */
     int64_t max;         /* a tombstone's max */
     uint64_t bits;       /* the 64 bits of the value, or the metric type */
     uint64_t strings;    /* how many strings */
@@ -246,7 +247,10 @@ depot_wal_status depot_wal_write(uint8_t *segment, size_t segment_len, size_t pl
                                  const uint8_t *record, size_t record_len,
                                  struct depot_wal_written *out);
 
-/* Reads the record at `place` into the buffer: 0 at first, later the `next` of the record before.
+/* Reads the first record at or after `place` (0 at first, later the `next` of the record before)
+ * into the buffer. Padding and empty pages before it are skipped, so its start may be above the
+ * place given.
+ * segment_len is the number of bytes that are there, which need not be whole pages.
  * Result: the record's start, its length and the place after it; DEPOT_WAL_END at a clean end.
  * Errors, with the place in `start`; after the first two they are checked for each fragment:
  *   DEPOT_WAL_BAD_BUFFER    0          the segment is above DEPOT_WAL_SEGMENT_MAX, or the buffer
@@ -263,7 +267,7 @@ depot_wal_status depot_wal_write(uint8_t *segment, size_t segment_len, size_t pl
  *   DEPOT_WAL_TOO_LONG      type byte  the record would be above DEPOT_WAL_RECORD_MAX
  *   DEPOT_WAL_TORN          record     the bytes end inside the data
  *   DEPOT_WAL_BAD_SUM       type byte  the checksum differs
- *   DEPOT_WAL_TORN          record     the bytes end before the record's last fragment
+ *   DEPOT_WAL_TORN          record     the bytes end where the record's next fragment should be
  * "type byte" is that of the fragment at hand, "record" the start of the truncated record.
  * Changes: with a record of n bytes the first n of the buffer, and *out. */
 depot_wal_status depot_wal_read(const uint8_t *segment, size_t segment_len, size_t place,
@@ -378,14 +382,15 @@ depot_wal_status depot_wal_body_check(const uint8_t *body, size_t len,
                                       struct depot_wal_count *out);
 
 /* Decodes the entry at `place`: 1 for the first, later the `next` of the entry before.
- * Result: the entry, with ids and times of rows after adding the first ones; DEPOT_WAL_END at the
- * body's end.
+ * Result: the entry; the deltas of samples and exemplars are already added to id and time.
+ * DEPOT_WAL_END at the body's end.
  * Errors, with the place in `type`:
  *   DEPOT_WAL_EMPTY_BODY    0      `len` is 0
  *   DEPOT_WAL_UNKNOWN_TYPE  0      the first byte is not in enum depot_wal_type
  *   DEPOT_WAL_BAD_PLACE     0      `place` is 0, past the body, or 2 to 16 in types
  *                                  DEPOT_WAL_SAMPLES and DEPOT_WAL_EXEMPLARS
- *   DEPOT_WAL_SHORT         field  as above, but of this entry alone
+ *   DEPOT_WAL_SHORT         field  as above, but of this entry alone (at place 1 of samples and
+ *                                  exemplars also of the first id and time)
  *   DEPOT_WAL_BAD_VARINT    field  as above, but of this entry alone
  * Changes: *out. */
 depot_wal_status depot_wal_entry_at(const uint8_t *body, size_t len, size_t place,
