@@ -1,5 +1,5 @@
-/* Every call of include/depot_wal.h, from C. The expected values are worked out from document 01
- * (the exact rules), never taken from a run. Then the table of named damage (damage.c), whose path
+/* Every call of include/depot_wal.h, from C. The expected values are worked out from the rules
+ * (docs/FORMAT.md), never taken from a run. Then the table of named damage (damage.c), whose path
  * is the argument, by default tests/damage.txt. Prints one line; if a check fails, it prints its
  * line number, or the name of the case, and exits with 1. */
 #include "check.h"
@@ -145,7 +145,7 @@ static void version(void)
 
 static uint32_t table[DEPOT_WAL_TABLE_LEN];
 
-/* CRC-32C bit by bit, as document 01 defines it. */
+/* CRC-32C bit by bit, as FORMAT 3 defines it. */
 static uint32_t crc_by_bits(const uint8_t *data, size_t n)
 {
     uint32_t r = 0xFFFFFFFFu;
@@ -276,7 +276,7 @@ static void bytes_give(int line, const char *text, depot_wal_status status, uint
 static const char switch_body[] =
     "02 0000000000000007 00000000000003E8 00 00 0000000000000000 01 00 3FF0000000000000";
 
-/* The switch of document 01: 37 bytes, 44 as a segment; cut at every byte. */
+/* The switch of FORMAT 13: 37 bytes, 44 as a segment; cut at every byte. */
 static void the_switch(void)
 {
     memset(segment, 0xAA, sizeof segment);
@@ -432,7 +432,7 @@ static void read_errors(void)
     reads_none(__LINE__, segment, 7, SIZE_MAX, DEPOT_WAL_BAD_PLACE, 0);
 }
 
-/* The errors of a read by the bytes, in the order of document 01's steps. */
+/* The errors of a read by the bytes, in the order of FORMAT 6.1 to 6.9. */
 static void corrupt_bytes(void)
 {
     bytes_give(__LINE__, "21", DEPOT_WAL_RESERVED, 0);
@@ -667,7 +667,7 @@ static void samples(void)
     ENTRY_AT(body, 17, 1, DEPOT_WAL_END, 0);
 }
 
-/* Type 3: document 01's signed varints. */
+/* Type 3: the signed varints of FORMAT 8.3. */
 static void tombstones(void)
 {
     start(__LINE__, 3);
@@ -704,7 +704,7 @@ static void exemplars(void)
     STRING_AT(body, used, 30, DONE, .start = 31, .length = 1);
 }
 
-/* Type 6: document 01's uvarints, as ids. */
+/* Type 6: the uvarints of FORMAT 8.2, as ids. */
 static void metadata(void)
 {
     static const uint64_t lengths[] = {4, 1};
