@@ -49,14 +49,18 @@ impl First {
         }
     }
 
+    /// Document 02 [1]: deltas are signed varints. Here as they are coded: the difference modulo
+    /// 2^64, read as two's complement, in zigzag form.
     fn deltas_to(self, id: SeriesId, time: Timestamp) -> (u64, u64) {
-        let time_delta = time.0.wrapping_sub(self.time.0) as u64;
-        (id.0.wrapping_sub(self.id.0), time_delta)
+        let id_delta = id.0.wrapping_sub(self.id.0) as i64;
+        let time_delta = time.0.wrapping_sub(self.time.0);
+        (varint::zigzag(id_delta), varint::zigzag(time_delta))
     }
 
-    fn plus(self, id_delta: u64, time_delta: u64) -> (SeriesId, Timestamp) {
-        let id = SeriesId(self.id.0.wrapping_add(id_delta));
-        let time = Timestamp(self.time.0.wrapping_add(time_delta as i64));
+    /// Adding back modulo 2^64 undoes every such difference.
+    fn plus(self, id_delta: i64, time_delta: i64) -> (SeriesId, Timestamp) {
+        let id = SeriesId(self.id.0.wrapping_add_signed(id_delta));
+        let time = Timestamp(self.time.0.wrapping_add(time_delta));
         (id, time)
     }
 }
@@ -205,7 +209,7 @@ impl Strings<'_> {
     }
 }
 
-/// A row as it is written.
+/// A row as it is written, its deltas coded.
 struct Row {
     /// Written before it if the body has none yet.
     first: Option<First>,
@@ -474,7 +478,7 @@ impl<'a> Cursor<'a> {
                 entry.metric_type = self.byte()?;
             }
             _ => {
-                let (id_delta, time_delta) = (self.uvarint()?, self.uvarint()?);
+                let (id_delta, time_delta) = (self.varint()?, self.varint()?);
                 (entry.id, entry.time) = First::of(self.body).plus(id_delta, time_delta);
                 entry.bits = self.eight()?;
             }
@@ -535,12 +539,42 @@ mod tests {
         let mut buffer = [0; 64];
         let entries = [sample(7, 5, 0), sample(6, 5, 0)].map(NewEntry::Sample);
         let state = build(&mut buffer, SAMPLES, &entries).expect("it fits");
-        assert_eq!(buffer[27..36], [0xFF; 9]);
-        assert_eq!(buffer[36], 0x01);
+        assert_eq!(buffer[27..29], [0x01, 0x00]);
         let body = &buffer[..state.used];
         let second = entry_at(body, 27).expect("good").expect("an entry");
         assert_eq!(second.id, SeriesId(6));
         assert_eq!(second.after, body.len());
+    }
+
+    #[test]
+    fn deltas_wrap() {
+        let ids = [0, 1, 7, 1 << 63, (1 << 63) - 1, (1 << 63) + 7, u64::MAX];
+        let times = [0, 1, -1, 1 << 62, i64::MAX, i64::MIN];
+        let mut samples = Vec::new();
+        for id in ids {
+            samples.extend(times.map(|time| sample(id, time, id ^ time as u64)));
+        }
+        let entries: Vec<NewEntry> = samples.iter().copied().map(NewEntry::Sample).collect();
+        for first in 0..entries.len() {
+            // Each of them comes first once.
+            let entries = [&entries[first..], &entries[..first]].concat();
+            let mut buffer = [0; 2_048];
+            let state = build(&mut buffer, SAMPLES, &entries).expect("it fits");
+            let mut list = vec![Sample::default(); samples.len()];
+            let filled = fill_samples(&buffer[..state.used], &mut list);
+            assert_eq!(filled, Ok(samples.len()));
+            assert_eq!(list, [&samples[first..], &samples[..first]].concat());
+        }
+    }
+
+    #[test]
+    fn the_largest_deltas_take_ten_bytes() {
+        let mut buffer = [0; 64];
+        let entries = [sample(7, 5, 0), sample(7 + (1 << 63), 5, 0)].map(NewEntry::Sample);
+        let state = build(&mut buffer, SAMPLES, &entries).expect("it fits");
+        assert_eq!(state.used, 27 + 10 + 1 + 8);
+        assert_eq!(buffer[27..36], [0xFF; 9]);
+        assert_eq!(buffer[36], 0x01);
     }
 
     #[test]

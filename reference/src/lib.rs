@@ -10,6 +10,7 @@ pub mod crc32c;
 pub mod damage;
 pub mod listing;
 pub mod refusal;
+pub mod rows;
 pub mod segment;
 pub mod selftest;
 pub mod tour;

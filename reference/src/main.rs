@@ -4,14 +4,16 @@
 //! `reference samples`: the lines that the product's program `test_samples` has to print.
 //! `reference list`: the listing of a segment on standard input (FORMAT 15).
 //! `reference damage FILE`: the cases of a table of named damage, with this program's answers.
+//! `reference rows FILE`: every record and every entry of a segment.
 
 #![forbid(unsafe_code)]
 
-use reference::{damage, listing, selftest, tour, tour_samples, vectors};
+use reference::{damage, listing, rows, selftest, tour, tour_samples, vectors};
 use std::io::{self, Read, Write};
 use std::process::ExitCode;
 
-const USAGE: &str = "usage: reference selftest | vectors | reader | samples | list | damage FILE";
+const USAGE: &str =
+    "usage: reference selftest | vectors | reader | samples | list | damage FILE | rows FILE";
 
 fn main() -> ExitCode {
     let words: Vec<String> = std::env::args().skip(1).collect();
@@ -23,6 +25,7 @@ fn main() -> ExitCode {
         ["samples"] => Ok(tour_samples::text()),
         ["list"] => Ok(listing::text(&input())),
         ["damage", file] => file_text(file).and_then(|table| damage::text(&table)),
+        ["rows", file] => file_bytes(file).and_then(|segment| rows::text(&segment)),
         _ => Err(USAGE.to_string()),
     };
     match done {
@@ -44,6 +47,10 @@ fn input() -> Vec<u8> {
 
 fn file_text(file: &str) -> Result<String, String> {
     std::fs::read_to_string(file).map_err(|error| format!("{file}: {error}"))
+}
+
+fn file_bytes(file: &str) -> Result<Vec<u8>, String> {
+    std::fs::read(file).map_err(|error| format!("{file}: {error}"))
 }
 
 fn print(text: &str) -> ExitCode {

@@ -10,8 +10,11 @@ use std::fmt::Write;
 
 const UNKNOWN: u8 = 5;
 
-/// The delta that goes back by one, modulo 2^64.
-const BACK: [u8; 10] = [255, 255, 255, 255, 255, 255, 255, 255, 255, 1];
+/// The delta that goes back by one: a signed varint (document 02 [1]).
+const BACK: [u8; 1] = [1];
+
+/// The delta that goes on by one.
+const ON: [u8; 1] = [2];
 
 pub fn text() -> String {
     let mut lines = String::new();
@@ -22,7 +25,7 @@ pub fn text() -> String {
 }
 
 fn bodies() -> [Vec<u8>; 16] {
-    let switch = with(&[row(&[0], &[0], 0), row(&[1], &[0], 0x3FF0_0000_0000_0000)]);
+    let switch = with(&[row(&[0], &[0], 0), row(&ON, &[0], 0x3FF0_0000_0000_0000)]);
     let mut cut = switch.clone();
     cut.pop();
     [

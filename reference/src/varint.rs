@@ -72,21 +72,15 @@ pub fn read_varint(bytes: &[u8]) -> Result<(i64, usize), Fault> {
     read_uvarint(bytes).map(|(number, length)| (unzigzag(number), length))
 }
 
-/// 2x for x >= 0, -2x - 1 for x < 0; worked out in 128 bits, where nothing overflows.
+/// 2x for x >= 0, -2x - 1 for x < 0: twice the number, all bits turned if it is negative. Every
+/// delta of a row goes through here, so there is no branch.
 pub fn zigzag(number: i64) -> u64 {
-    let wide = i128::from(number);
-    let coded = if wide >= 0 { 2 * wide } else { -2 * wide - 1 };
-    coded as u64
+    ((number << 1) ^ (number >> 63)) as u64
 }
 
-/// The number whose zigzag form is `coded`.
+/// The number whose zigzag form is `coded`: half of it, all bits turned if it is odd.
 pub fn unzigzag(coded: u64) -> i64 {
-    let half = (coded / 2) as i64;
-    if coded.is_multiple_of(2) {
-        half
-    } else {
-        -half - 1
-    }
+    (coded >> 1) as i64 ^ -((coded & 1) as i64)
 }
 
 #[cfg(test)]
@@ -100,6 +94,19 @@ mod tests {
             write_varint(number, &mut bytes);
             assert_eq!(bytes.len(), varint_length(number));
             assert_eq!(read_varint(&bytes), Ok((number, bytes.len())));
+        }
+    }
+
+    #[test]
+    fn zigzag_is_what_the_format_says() {
+        for bits in 0..i64::BITS {
+            let power = i64::MIN >> bits;
+            for number in [power, power.wrapping_sub(1), -(power + 1), power + 1] {
+                let wide = i128::from(number);
+                let coded = if wide >= 0 { 2 * wide } else { -2 * wide - 1 };
+                assert_eq!(i128::from(zigzag(number)), coded);
+                assert_eq!(unzigzag(zigzag(number)), number);
+            }
         }
     }
 

@@ -204,7 +204,7 @@ fn add_types(lines: &mut String) {
 
 /// The switch of FORMAT 13: at time 1000, id 7 to 0, id 8 to 1.0.
 pub const SWITCH: [u8; 37] = [
-    2, 0, 0, 0, 0, 0, 0, 0, 7, 0, 0, 0, 0, 0, 0, 0x03, 0xE8, 0, 0, 0, 0, 0, 0, 0, 0, 0, 0, 1, 0,
+    2, 0, 0, 0, 0, 0, 0, 0, 7, 0, 0, 0, 0, 0, 0, 0x03, 0xE8, 0, 0, 0, 0, 0, 0, 0, 0, 0, 0, 2, 0,
     0x3F, 0xF0, 0, 0, 0, 0, 0, 0,
 ];
 
@@ -243,7 +243,7 @@ fn refused(refusal: Refusal) -> String {
 }
 
 /// The bytes as lowercase pairs; `-` for none.
-fn hex(bytes: &[u8]) -> String {
+pub fn hex(bytes: &[u8]) -> String {
     if bytes.is_empty() {
         return "-".to_string();
     }

@@ -274,7 +274,7 @@ static void bytes_give(int line, const char *text, depot_wal_status status, uint
 }
 
 static const char switch_body[] =
-    "02 0000000000000007 00000000000003E8 00 00 0000000000000000 01 00 3FF0000000000000";
+    "02 0000000000000007 00000000000003E8 00 00 0000000000000000 02 00 3FF0000000000000";
 
 /* The switch of FORMAT 13: 37 bytes, 44 as a segment; cut at every byte. */
 static void the_switch(void)
@@ -638,7 +638,7 @@ static void samples(void)
     size_t used = ADDS(2, 1, "0000000000000007 00000000000003E8 00 00 0000000000000000",
                        .id = 7, .time = 1000);
     CHECK(used == 27);
-    used = ADDS(2, used, "01 00 3FF0000000000000", .id = 8, .time = 1000, .bits = ONE);
+    used = ADDS(2, used, "02 00 3FF0000000000000", .id = 8, .time = 1000, .bits = ONE);
     CHECK(used == 37 && same(body, 37, switch_body));
     BODY_CHECK(body, 37, DONE, .count = 2);
     ENTRY_AT(body, 37, 1, DONE, .type = 2, .id = 7, .time = 1000, .strings_at = 27, .next = 27);
@@ -647,19 +647,28 @@ static void samples(void)
              .strings_at = 37, .next = 37);
     ENTRY_AT(body, 37, 37, DEPOT_WAL_END, 0);
 
-    /* Deltas wrap, of ids and of times; the bits of a signalling NaN survive. */
-    used = ADDS(2, used, "FFFFFFFFFFFFFFFFFF01 AC02 7FF0000000000001",
+    /* Deltas of both signs, of one and of two bytes; the bits of a signalling NaN survive. */
+    used = ADDS(2, used, "01 D804 7FF0000000000001",
                 .id = 6, .time = 1300, .bits = 0x7FF0000000000001u);
     ENTRY_AT(body, used, 37, DONE, .type = 2, .id = 6, .time = 1300, .bits = 0x7FF0000000000001u,
-             .strings_at = 57, .next = 57);
-    used = ADDS(2, used, "7F FFFFFFFFFFFFFFFFFF01 0000000000000000", .id = 134, .time = 999);
-    used = ADDS(2, used, "8001 97F8FFFFFFFFFFFFFF01 0000000000000000", .id = 135, .time = -1);
-    ENTRY_AT(body, used, 57, DONE, .type = 2, .id = 134, .time = 999, .strings_at = 76, .next = 76);
-    ENTRY_AT(body, used, 76, DONE, .type = 2, .id = 135, .time = -1, .strings_at = 96, .next = 96);
-    BODY_CHECK(body, used, DONE, .count = 5);
+             .strings_at = 48, .next = 48);
+    used = ADDS(2, used, "FE01 01 0000000000000000", .id = 134, .time = 999);
+    used = ADDS(2, used, "8002 D10F 0000000000000000", .id = 135, .time = -1);
+    ENTRY_AT(body, used, 48, DONE, .type = 2, .id = 134, .time = 999, .strings_at = 59, .next = 59);
+    ENTRY_AT(body, used, 59, DONE, .type = 2, .id = 135, .time = -1, .strings_at = 71, .next = 71);
+
+    /* Deltas wrap, of ids and of times: -8; the farthest id; 2^63 - 1 - 1000; -2^63 - 1000. */
+    used = ADDS(2, used, "0F AEF0FFFFFFFFFFFFFF01 0000000000000000", .id = TOP, .time = INT64_MAX);
+    used = ADDS(2, used, "FFFFFFFFFFFFFFFFFF01 B0F0FFFFFFFFFFFFFF01 0000000000000000",
+                .id = (UINT64_C(1) << 63) + 7, .time = INT64_MIN);
+    ENTRY_AT(body, used, 71, DONE, .type = 2, .id = TOP, .time = INT64_MAX,
+             .strings_at = 90, .next = 90);
+    ENTRY_AT(body, used, 90, DONE, .type = 2, .id = (UINT64_C(1) << 63) + 7, .time = INT64_MIN,
+             .strings_at = 118, .next = 118);
+    BODY_CHECK(body, used, DONE, .count = 7);
 
     /* A state of 17 bytes: the first id and time are there, the row is encoded against them. */
-    ADDS(2, 17, "01 00 3FF0000000000000", .id = 8, .time = 1000, .bits = ONE);
+    ADDS(2, 17, "02 00 3FF0000000000000", .id = 8, .time = 1000, .bits = ONE);
     BODY_CHECK(body, 27, DONE, .count = 1);
     ENTRY_AT(body, 27, 1, DONE, .type = 2, .id = 8, .time = 1000, .bits = ONE,
              .strings_at = 27, .next = 27);
@@ -693,13 +702,13 @@ static void exemplars(void)
                              "01 01 6B 01 76",
                        .id = 7, .time = 1000, .bits = ONE,
                        .strings = "kv", .lengths = lengths, .count = 2);
-    used = ADDS(4, used, "FFFFFFFFFFFFFFFFFF01 00 0000000000000000 00", .id = 6, .time = 1000);
+    used = ADDS(4, used, "01 00 0000000000000000 00", .id = 6, .time = 1000);
     BODY_CHECK(body, used, DONE, .count = 2);
     ENTRY_AT(body, used, 1, DONE, .type = 4, .id = 7, .time = 1000, .bits = ONE,
              .strings = 2, .strings_at = 28, .next = 32);
     ENTRY_AT(body, used, 17, DONE, .type = 4, .id = 7, .time = 1000, .bits = ONE,
              .strings = 2, .strings_at = 28, .next = 32);
-    ENTRY_AT(body, used, 32, DONE, .type = 4, .id = 6, .time = 1000, .strings_at = 52, .next = 52);
+    ENTRY_AT(body, used, 32, DONE, .type = 4, .id = 6, .time = 1000, .strings_at = 43, .next = 43);
     STRING_AT(body, used, 28, DONE, .start = 29, .length = 1);
     STRING_AT(body, used, 30, DONE, .start = 31, .length = 1);
 }
@@ -785,7 +794,7 @@ static void addition_limits(void)
     memset(body, 0xAA, sizeof body);
     put(body, switch_body);
     add_fails(__LINE__, 2, 36, 2, 27, &second, DEPOT_WAL_NO_ROOM, 27);
-    adds(__LINE__, 2, 27, "01 00 3FF0000000000000", &second);
+    adds(__LINE__, 2, 27, "02 00 3FF0000000000000", &second);
 }
 
 /* A body whose entry at `place` is an error, for the check of the whole and for the entry's own

@@ -9,17 +9,20 @@ use borrow.Author.Tests.{ltb-true, eq-eqb, ne-eqb, eqb-true, eqb-false}
 use lib.Dec.{ltb, eqb}
 use lib.ListN.{length, getD, drop, set, drop-of-length-le, length-drop, length-set}
 use lib.Seq.{drop-cons, sets}
-use Rattle.wal_types.specs.Deltas.{minus}
+use Rattle.wal_types.specs.Deltas.{minus, fromBits}
 use Rattle.byte_copy.specs.Put.{putAt, putEnd}
 use Rattle.uvarint.specs.Uvarint.{uvarint}
+use Rattle.varint.specs.Varint.{zigzag, varint}
 use Rattle.uvarint.specs.UvarintLaws.{one-group, length-at-least-1}
 use Rattle.big_endian.specs.Fixed.{be8, readBe8}
 use Rattle.big_endian.specs.FixedLaws.{length-be8}
 use Rattle.body_format.specs.Building.{stringsBytes, stringListBytes, cutStrings, total, badList, rowBytes}
+use Rattle.body_format.specs.Heads.{deltaBytes}
 use Rattle.body_format.specs.Laws.Fields.{length-list}
+use Rattle.body_format.specs.Laws.Heads.{delta-bytes}
 use Rattle.body_format.specs.Laws.Strings.{length-cut, length-cut-strings, row-first, row-later, length-row-first, length-row-later}
 use Rattle.body_builder.specs.declared.builder.Deltas.{Deltas}
-use Rattle.body_builder.specs.Sizes.{rowSize, rowTail, deltasIn, heads, listSize}
+use Rattle.body_builder.specs.Sizes.{rowSize, rowTail, deltasIn, zigzagsOf, heads, listSize}
 use Rattle.body_builder.proofs.Putting.{Put, put-last, put-first, room-then, put-then}
 
 -- a size n for the true size m: exact, or both are above the limit
@@ -125,23 +128,32 @@ list-sized bytes lengths e = go (ltb 65536 (length lengths)) (ltb 65536 (length 
 
 -- ---- rows
 
-pub row-sized : (b : List ℕ) (u id time v : ℕ) (row : Deltas) → row ≡ deltasIn b id time → rowSize u (row .id) (row .time) ≡ length (rowBytes b u id time v)
-row-sized b u id time v row e = ap (λ (r : Deltas). rowSize u (r .id) (r .time)) e ∙ go (eqb u 1) refl
+pub row-sized : (b : List ℕ) (u id time v : ℕ) (row : Deltas) → row ≡ zigzagsOf (deltasIn b u id time) → rowSize u (row .id) (row .time) ≡ length (rowBytes b u id time v)
+row-sized b u id time v row e = go (eqb u 1) refl
   where
-    go : (t : Bool) → eqb u 1 ≡ t → rowSize u (minus id (readBe8 (drop 1 b))) (minus time (readBe8 (drop 9 b))) ≡ length (rowBytes b u id time v)
+    d : ℕ
+    d = minus id (readBe8 (drop 1 b))
+
+    f : ℕ
+    f = minus time (readBe8 (drop 9 b))
+
+    go : (t : Bool) → eqb u 1 ≡ t → rowSize u (row .id) (row .time) ≡ length (rowBytes b u id time v)
     go true a = rw a (sym (length-row-first b u id time v (eqb-true u 1 a)))
-    go false a = rw a (sym (length-row-later b u id time v (eqb-false u 1 a)))
+    go false a =
+        let r : row ≡ zigzagsOf (record { id = d; time = f }) = rw a at e in
+        rw (a, r, ← delta-bytes d, ← delta-bytes f) (sym (length-row-later b u id time v (eqb-false u 1 a)))
 
 -- a later row: its deltas, and the value
-pub later-row : (b : List ℕ) (u id time v : ℕ) (row : Deltas) → row ≡ deltasIn b id time → (u ≡ 1 → ⊥) → rowTail (row .id) (row .time) v ≡ rowBytes b u id time v
-unfolding rowTail
-later-row b u id time v row e h = ap (λ (r : Deltas). rowTail (r .id) (r .time) v) e ∙ sym (row-later b u id time v h)
+pub later-row : (b : List ℕ) (u id time v : ℕ) (row : Deltas) → row ≡ zigzagsOf (deltasIn b u id time) → (u ≡ 1 → ⊥) → rowTail (row .id) (row .time) v ≡ rowBytes b u id time v
+unfolding rowTail deltaBytes varint
+later-row b u id time v row e h =
+    ap (λ (r : Deltas). rowTail (r .id) (r .time) v) (rw (ne-eqb u 1 h) at e) ∙ sym (row-later b u id time v h)
 
 -- the first row, from what its puts write
 module _ (b d₁ d₂ : List ℕ) (u p q id time v : ℕ) (first : u ≡ 1) (room : u + length (rowBytes b u id time v) ≤ length b)
     (e : p ≡ putEnd b u (be8 id)) (f : d₁ ≡ putAt b u (be8 id)) (g : q ≡ putEnd d₁ p (be8 time)) (h : d₂ ≡ putAt d₁ p (be8 time)) where
   bytes : rowBytes b u id time v ≡ be8 id ++ (be8 time ++ rowTail 0 0 v)
-  unfolding rowTail
+  unfolding rowTail deltaBytes varint zigzag fromBits
   bytes = row-first b u id time v first
 
   room₀ : u + length (be8 id ++ (be8 time ++ rowTail 0 0 v)) ≤ length b

@@ -10,9 +10,9 @@ use lib.ListN.{length, drop}
 use Rattle.wal_types.specs.declared.Refusal.the-variants.{BadPlace, TooLong, NoRoom, BadList, WrongKind}
 use Rattle.wal_types.specs.Terms.{offset}
 use Rattle.wal_types.specs.Sizes.{recordLimit}
-use Rattle.wal_types.specs.Deltas.{minus}
+use Rattle.wal_types.specs.Deltas.{minus, fromBits}
 use Rattle.uvarint.specs.Uvarint.{uvarint}
-use Rattle.varint.specs.Varint.{varint}
+use Rattle.varint.specs.Varint.{zigzag, varint}
 use Rattle.big_endian.specs.Fixed.{be8, readBe8}
 use Rattle.body_format.specs.Entries.{Known, known, unknown}
 use Rattle.body_format.specs.Building.{Outcome, used, refused, badState}
@@ -46,10 +46,18 @@ decided b t u want bad n =
 
 -- ---- rows
 
-abbrev pub deltasIn : List ℕ → ℕ → ℕ → Deltas
-deltasIn b id time = record { id = minus id (readBe8 (drop 1 b)); time = minus time (readBe8 (drop 9 b)) }
+-- a row's deltas to the first id and the first timestamp in buffer b; the first row's, after one
+-- byte used, are 0
+abbrev pub deltasIn : List ℕ → ℕ → ℕ → ℕ → Deltas
+deltasIn b u id time =
+    cond (eqb u 1) (record { id = 0; time = 0 })
+    (record { id = minus id (readBe8 (drop 1 b)); time = minus time (readBe8 (drop 9 b)) })
 
--- two deltas and the value
+-- their zigzags
+abbrev pub zigzagsOf : Deltas → Deltas
+zigzagsOf d = record { id = zigzag (fromBits (d .id)); time = zigzag (fromBits (d .time)) }
+
+-- two deltas by their zigzags, and the value
 unfoldable pub rowTail : ℕ → ℕ → ℕ → List ℕ
 rowTail d e v = uvarint d ++ (uvarint e ++ be8 v)
 

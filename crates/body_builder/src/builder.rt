@@ -6,6 +6,7 @@ use body_format::METADATA;
 use body_format::SAMPLES;
 use body_format::SERIES;
 use body_format::TOMBSTONES;
+use delta::zigzag_of_delta;
 use wal_types::Offset;
 use wal_types::RECORD_LIMIT;
 use wal_types::Refusal;
@@ -22,7 +23,7 @@ ghost use lib.Seq.{sets};
 ghost use Rattle.wal_types.specs.Deltas.{toBits};
 ghost use Rattle.body_format.specs.Building.{badState, cutStrings, total, rowBytes, entryBytes};
 ghost use Rattle.body_format.specs.Entries.{bodyTypeOf, rowsKnown, seriesEntry, tombstoneEntry, metadataEntry};
-ghost use Rattle.body_builder.specs.Sizes.{isKnown, decided, gateFor, deltasIn, rowSize, rowTail, tombstoneSize};
+ghost use Rattle.body_builder.specs.Sizes.{isKnown, decided, gateFor, deltasIn, zigzagsOf, rowSize, rowTail, tombstoneSize};
 
 // The bytes of the first row: the first id and timestamp, two deltas of one byte each, the value.
 const FIRST_ROW: usize = 26;
@@ -33,7 +34,7 @@ pub(crate) enum Gate {
     Shut(Refusal),
 }
 
-// A row's deltas to the first id and the first timestamp.
+// A row's deltas to the first id and the first timestamp, or their zigzags.
 pub(crate) struct Deltas {
     pub id: u64,
     pub time: u64,
@@ -111,11 +112,14 @@ pub(crate) fn admit(buffer: &[u8], tag: u8, used: usize, want: u8, bad: bool, si
     Gate::Open
 }
 
-// The deltas of a row to the first id and timestamp, bytes 1 to 16 of the buffer (FORMAT 10.4). A
-// first row does not use them.
-pub(crate) fn deltas_of(buffer: &[u8], id: SeriesId, time: Timestamp) -> Deltas
-    ensures { λ r. ⌜ r ≡ deltasIn (now (buffer .entry)) (id .0) (toBits (time .0)) ⌝ }
+// The deltas of a row to the first id and timestamp, bytes 1 to 16 of the buffer (FORMAT 10.4);
+// those of the first row, after one byte used, are 0.
+pub(crate) fn deltas_of(buffer: &[u8], used: usize, id: SeriesId, time: Timestamp) -> Deltas
+    ensures { λ r. ⌜ r ≡ deltasIn (now (buffer .entry)) used (id .0) (toBits (time .0)) ⌝ }
 {
+    if used == 1 {
+        return Deltas { id: 0, time: 0 };
+    }
     let first_id = SeriesId(big_endian::get_be8(buffer, 1));
     let first_time = time_of_bits(big_endian::get_be8(buffer, 9));
     Deltas {
@@ -124,7 +128,19 @@ pub(crate) fn deltas_of(buffer: &[u8], id: SeriesId, time: Timestamp) -> Deltas
     }
 }
 
-// The bytes that a row takes after `used` bytes. The first one has the first id and timestamp too.
+// The zigzags of a row's deltas: worked out once, then measured and written. Not a part of
+// `deltas_of`: with it that would be a call of its own.
+pub(crate) fn zigzags(deltas: Deltas) -> Deltas
+    ensures { λ r. ⌜ r ≡ zigzagsOf deltas ⌝ }
+{
+    Deltas {
+        id: zigzag_of_delta(deltas.id),
+        time: zigzag_of_delta(deltas.time),
+    }
+}
+
+// The bytes that a row takes after `used` bytes, by the zigzags of its deltas. The first one has the
+// first id and timestamp too.
 pub(crate) fn row_size(used: usize, row: Deltas) -> usize
     ensures { λ r. ⌜ (r ≡ rowSize used (row .id) (row .time)) × (r ≤ 28) ⌝ }
 {
@@ -176,7 +192,8 @@ fn put_deltas(buffer: &mut [u8], at: usize, id: u64, time: u64, bits: u64) -> us
     put_long_deltas(buffer, at, id, time, bits)
 }
 
-// A row, which types 2 and 4 share, at a place that has room for it; the place after it.
+// A row, which types 2 and 4 share, by the zigzags of its deltas, at a place that has room for it;
+// the place after it.
 pub(crate) fn put_row(
     buffer: &mut [u8],
     at: usize,
@@ -185,7 +202,7 @@ pub(crate) fn put_row(
     row: Deltas,
     bits: u64,
 ) -> usize
-    requires { ⌜ (row ≡ deltasIn (now buffer) (id .0) (toBits (time .0))) ×
+    requires { ⌜ (row ≡ zigzagsOf (deltasIn (now buffer) at (id .0) (toBits (time .0)))) ×
         (at + length (rowBytes (now buffer) at (id .0) (toBits (time .0)) bits) ≤ length (now buffer)) ⌝ }
     ensures { λ r. ⌜ r ≡ at + length (rowBytes (now (buffer .entry)) at (id .0) (toBits (time .0)) bits) ⌝ }
     ensures { λ _. ⌜ now (buffer .exit) ≡ sets (now (buffer .entry)) at

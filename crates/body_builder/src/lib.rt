@@ -18,6 +18,7 @@ use builder::put_series;
 use builder::put_tombstone;
 use builder::row_size;
 use builder::tombstone_size;
+use builder::zigzags;
 use strings::list_is_bad;
 use strings::list_size;
 use strings::put_list;
@@ -103,7 +104,7 @@ impl Body {
             (addSample (id .0) (time .0) bits) .buffer ⌝ }
     {
         let at = self.used.0;
-        let row = deltas_of(&*buffer, id, time);
+        let row = zigzags(deltas_of(&*buffer, at, id, time));
         let size = row_size(at, row);
         match admit(&*buffer, self.tag, at, SAMPLES, false, size) {
             Gate::Open => {
@@ -159,7 +160,7 @@ impl Body {
     {
         let at = self.used.0;
         let bad = list_is_bad(strings, lengths);
-        let row = deltas_of(&*buffer, id, time);
+        let row = zigzags(deltas_of(&*buffer, at, id, time));
         let list = list_size(strings, lengths);
         let size = row_size(at, row) + list;
         match admit(&*buffer, self.tag, at, EXEMPLARS, bad, size) {

@@ -1,8 +1,11 @@
 -- Laws of ends: where fields that follow each other end, whatever is made of their values.
 -- Assumes nothing.
 use mathlib.Core.Path.{_≡_, refl, sym, ap, _∙_}
+use mathlib.Core.List.{List}
 use Prim.Native.Nat.{ℕ}
-use Rattle.body_format.specs.Fields.{Field, got, fault, andThen}
+use Rattle.body_format.specs.Fields.{Field, got, fault, andThen, uvarintAt}
+use Rattle.body_format.specs.Heads.{deltaAt}
+use Rattle.body_format.specs.Laws.Heads.{delta-uvarint}
 use Rattle.body_fields.specs.declared.Place.{Place}
 use Rattle.body_fields.specs.declared.Place.the-variants.{At, Fault}
 use Rattle.body_fields.specs.Ends.{endOf, onward}
@@ -38,3 +41,7 @@ end-three f g h k e i j =
     j ∙ ap (λ (p : Place). onward p (λ x. endOf (h x))) (i ∙ ap (λ (p : Place). onward p (λ x. endOf (g x))) e)
     ∙ onward-onward (endOf f) (λ x. endOf (g x)) (λ x. endOf (h x))
     ∙ sym (end-then f _ _ (λ a x. end-then (g x) _ _ (λ b y. end-one (h y) (λ c z. k a b c z))))
+
+-- a delta ends where its zigzag does
+pub delta-end : (s : List ℕ) (p : ℕ) → endOf (uvarintAt s p) ≡ endOf (deltaAt s p)
+delta-end s p = sym (ap endOf (delta-uvarint s p) ∙ end-one (uvarintAt s p) _)

@@ -10,10 +10,11 @@ use Rattle.wal_types.specs.declared.Refusal.{Refusal}
 use Rattle.wal_types.specs.declared.Refusal.the-variants.{BadPlace, TooLong, NoRoom, UnknownType, BadList, WrongKind}
 use Rattle.wal_types.specs.Terms.{offset}
 use Rattle.wal_types.specs.Sizes.{recordLimit}
-use Rattle.wal_types.specs.Deltas.{minus, toBits}
+use Rattle.wal_types.specs.Deltas.{toBits}
 use Rattle.uvarint.specs.Uvarint.{uvarint}
 use Rattle.varint.specs.Varint.{varint}
-use Rattle.big_endian.specs.Fixed.{be8, readBe8}
+use Rattle.big_endian.specs.Fixed.{be8}
+use Rattle.body_format.specs.Heads.{headBytes}
 use Rattle.body_format.specs.Entries.{typeByte, Known, known, unknown, bodyTypeOf, rowsKnown, Entry, seriesEntry, sampleEntry, tombstoneEntry, exemplarEntry, metadataEntry, bodyTypeFor}
 
 -- ---- the bytes of an entry
@@ -30,17 +31,9 @@ stringsBytes (t ∷ ts) = stringBytes t ++ stringsBytes ts
 unfoldable pub stringListBytes : List (List ℕ) → List ℕ
 stringListBytes ts = uvarint (length ts / 2) ++ stringsBytes ts
 
--- a delta as it is written in a row
-abbrev pub deltaBytes : ℕ → List ℕ
-deltaBytes d = uvarint d
-
--- The row of id, time (its 64 bits) and value, after the `used` bytes of the body in buffer b
--- (FORMAT 10.4). The first entry writes the first id, the first timestamp, and a row with both
--- deltas 0. A later one writes its deltas to those in bytes 1 to 16, modulo 2^64.
+-- the row of id, time (its 64 bits) and value: its head, and the value (FORMAT 10.4)
 unfoldable pub rowBytes : List ℕ → ℕ → ℕ → ℕ → ℕ → List ℕ
-rowBytes b used id time v =
-    cond (eqb used 1) (be8 id ++ (be8 time ++ (deltaBytes 0 ++ (deltaBytes 0 ++ be8 v))))
-    (deltaBytes (minus id (readBe8 (drop 1 b))) ++ (deltaBytes (minus time (readBe8 (drop 9 b))) ++ be8 v))
+rowBytes b used id time v = headBytes b used id time ++ be8 v
 
 -- the bytes of an entry, written after the `used` bytes of the body in buffer b
 unfoldable pub entryBytes : List ℕ → ℕ → Entry → List ℕ

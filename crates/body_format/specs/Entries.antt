@@ -5,11 +5,10 @@ use mathlib.Core.Bool.{Bool, true, false, cond}
 use mathlib.Core.List.{List, [], _∷_}
 use Prim.Native.Nat.{ℕ, zero, suc}
 use lib.IntN.{ℤ}
-use lib.ListN.{length, drop}
+use lib.ListN.{length}
 use lib.Dec.{eqb}
-use Rattle.wal_types.specs.Deltas.{plus, fromBits}
-use Rattle.big_endian.specs.Fixed.{readBe8}
 use Rattle.body_format.specs.Fields.{Field, got, andThen, byteAt, fixedAt, uvarintAt, varintAt, stringListAt}
+use Rattle.body_format.specs.Heads.{headAt}
 
 -- ---- types
 
@@ -80,18 +79,12 @@ pub record Row : Type 0 where
   pub time : ℤ
   pub bits : ℕ
 
--- a delta of a row
-abbrev pub deltaAt : List ℕ → ℕ → Field ℕ
-deltaAt s p = uvarintAt s p
-
--- id delta, timestamp delta, value (8). A delta is added modulo 2^64 (FORMAT 9.3): to the first id,
--- bytes 1 to 8, or to the first timestamp, bytes 9 to 16.
+-- a row: its head (FORMAT 9.3), and the value (8)
 unfoldable pub rowAt : List ℕ → ℕ → Field Row
 rowAt s p =
-    andThen (deltaAt s p) (λ d q.
-    andThen (deltaAt s q) (λ e r.
-    andThen (fixedAt s r) (λ v next.
-    got (record { id = plus (readBe8 (drop 1 s)) d; time = fromBits (plus (readBe8 (drop 9 s)) e); bits = v }) next)))
+    andThen (headAt s p) (λ h q.
+    andThen (fixedAt s q) (λ v next.
+    got (record { id = h .id; time = h .time; bits = v }) next))
 
 -- 1: id (8), label count n (uvarint), 2n strings
 unfoldable pub seriesAt : List ℕ → ℕ → Field Placed

@@ -1,5 +1,6 @@
 -- Laws of the definitions, from the fields to whole lists of calls.
 pub mod Fields
+pub mod Heads
 pub mod Bounds
 pub mod Kept
 pub mod Types

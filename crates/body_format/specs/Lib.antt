@@ -1,4 +1,5 @@
 pub mod Fields
+pub mod Heads
 pub mod Entries
 pub mod Reading
 pub mod Building

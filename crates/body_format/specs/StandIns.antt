@@ -22,7 +22,8 @@ use Rattle.body_format.specs.declared.EntryAnswer.the-variants.{End}
 use Rattle.body_format.specs.Fields.{got, fixedAt, uvarintAt, varintAt}
 use Rattle.body_format.specs.Entries.{tombstones, bodyTypeOf, Entry, sampleEntry, tombstoneEntry, rowAt, sampleAt, tombstoneAt, entriesFrom, entries}
 use Rattle.body_format.specs.Reading.{checkBody, entryOrEnd, badPlace, readEntry, readString}
-use Rattle.body_format.specs.Building.{deltaBytes, rowBytes, entryBytes, Outcome, used, refused, start, badState, add}
+use Rattle.body_format.specs.Heads.{deltaBytes, deltaAt, headAt, headBytes}
+use Rattle.body_format.specs.Building.{rowBytes, entryBytes, Outcome, used, refused, start, badState, add}
 use Rattle.body_format.specs.Calls.{Addition, addSeries, addSample, addTombstone, addExemplar, addMetadata, entryFor, listIsBad, BuildResult, Builder, starter, builder, finalBuffer, finalUsed, Checker, EntryReader, StringReader, BodyCalls, Walks}
 use Rattle.body_format.specs.Calls.Walks.{next, done}
 use Rattle.body_format.specs.Claims.{Demand2}
@@ -139,12 +140,12 @@ seven = addSample 7 (pos 0) 0
 
 -- an example that reading back alone does not find it: the sample comes out as it was put in
 pub shifted-walks : Walks readEntry readString (shiftsFirst fresh 2 1 seven .buffer) 1 (entryFor seven ∷ [])
-unfolding add badState bodyTypeOf entryBytes rowBytes be8 be4 uvarint groups minus plus toBits fromBits readEntry entryOrEnd badPlace fixedAt sampleAt rowAt uvarintAt readUvarint readGroups after readBe8 readBe4
+unfolding add badState bodyTypeOf entryBytes rowBytes headBytes deltaBytes be8 be4 varint zigzag uvarint groups minus plus toBits fromBits readEntry entryOrEnd badPlace fixedAt sampleAt rowAt headAt deltaAt varintAt readVarint signed unzigzag readUvarint readGroups after readBe8 readBe4
 shifted-walks = next 27 refl tt (done refl)
 
 -- the bytes do: byte 8, the last of the first id, is 7 and not 6
 pub shifts-first : (C : BodyCalls) → ((b : List ℕ) (t u : ℕ) (a : Addition) → C .add b t u a ≡ shiftsFirst b t u a) → Demand2 C → ⊥
-unfolding add badState bodyTypeOf entryBytes rowBytes be8 be4 uvarint groups minus toBits
+unfolding add badState bodyTypeOf entryBytes rowBytes headBytes deltaBytes be8 be4 varint zigzag uvarint groups minus toBits fromBits
 shifts-first C shifted d =
     let z : _≡_ {A = ℕ} 6 7 = ap (λ (r : BuildResult). getD (r .buffer) 8 0) (sym (shifted fresh 2 1 seven) ∙ d .adds fresh 2 1 seven) in
     omega arith

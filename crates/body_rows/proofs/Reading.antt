@@ -1,25 +1,25 @@
 -- What the fields of a row and of an entry of rows give, fault by fault, in the code's forms.
 use mathlib.Core.Bool.{Bool, true, false}
-use mathlib.Core.Path.{_≡_, _∙_}
+use mathlib.Core.Path.{_≡_, refl, _∙_}
 use mathlib.Core.List.{List}
 use Prim.Native.Nat.{ℕ}
 use lib.IntN.{pos}
-use lib.ListN.{length}
 use Rattle.wal_types.specs.declared.Refusal.{Refusal}
 use Rattle.wal_types.specs.declared.SeriesId.{SeriesId}
 use Rattle.wal_types.specs.declared.Timestamp.{Timestamp}
 use Rattle.wal_types.specs.Terms.{offset, seriesId, timestamp}
 use Rattle.body_format.specs.declared.EntryAnswer.the-variants.{Found, Refused}
 use Rattle.body_format.specs.Fields.{Field, got, fault, StringList, fixedAt, uvarintAt, stringListAt}
-use Rattle.body_format.specs.Entries.{Row, typeByte, rowAt, sampleAt, exemplarAt, entryAt}
+use Rattle.body_format.specs.Heads.{headAt}
+use Rattle.body_format.specs.Laws.Heads.{delta-got, delta-fault}
+use Rattle.body_format.specs.Entries.{Row, rowAt, sampleAt, exemplarAt, entryAt}
 use Rattle.body_format.specs.Reading.{answerEntry}
-use Rattle.body_fields.specs.declared.StringListRead.{StringListRead}
-use Rattle.body_fields.specs.declared.StringListRead.the-variants as list
-use Rattle.body_fields.specs.Laws.{never, list-got, list-fault}
+use Rattle.body_fields.specs.Readings.{stringListRead}
+use Rattle.body_fields.specs.Laws.{never}
 use Rattle.body_rows.specs.declared.RowRead.{RowRead}
 use Rattle.body_rows.specs.declared.RowRead.the-variants as row
 use Rattle.body_rows.specs.Rows.{rowsType}
-use Rattle.body_rows.specs.Forms.{BaseIn, rowRead, rowGot, labelsRead}
+use Rattle.body_rows.specs.Forms.{BaseIn, rowRead, rowGot, exemplarOf}
 
 -- ---- what a row that was read says
 
@@ -38,29 +38,29 @@ row-fault (got m p) r e g = never cc
 row-fault (fault w) r e g = cc
 
 module _ (s : List ℕ) (p : ℕ) where
-  -- ---- a row
+  -- ---- a row: the zigzags of its deltas, and its value
 
   pub row-1 : {why : Refusal} → uvarintAt s p ≡ fault why → row.Fault why ≡ rowRead (rowAt s p)
-  unfolding rowAt
-  row-1 h = rw h
+  unfolding rowAt headAt
+  row-1 h = rw (delta-fault s p _ h)
 
   pub row-2 : {d q : ℕ} {why : Refusal} → uvarintAt s p ≡ got d q → uvarintAt s q ≡ fault why
       → row.Fault why ≡ rowRead (rowAt s p)
-  unfolding rowAt
-  row-2 h i = rw (h, i)
+  unfolding rowAt headAt
+  row-2 {q = q} h i = rw (delta-got s p _ _ h, delta-fault s q _ i)
 
   pub row-3 : {d q e r : ℕ} {why : Refusal}
       → uvarintAt s p ≡ got d q → uvarintAt s q ≡ got e r → fixedAt s r ≡ fault why
       → row.Fault why ≡ rowRead (rowAt s p)
-  unfolding rowAt
-  row-3 h i j = rw (h, i, j)
+  unfolding rowAt headAt
+  row-3 {q = q} h i j = rw (delta-got s p _ _ h, delta-got s q _ _ i, j)
 
   pub row-all : {d q e r v next : ℕ} {id : SeriesId} {time : Timestamp} {found : RowRead}
       → found ≡ rowGot id time d e v next
       → uvarintAt s p ≡ got d q → uvarintAt s q ≡ got e r → fixedAt s r ≡ got v next → BaseIn s id time
       → found ≡ rowRead (rowAt s p)
-  unfolding rowAt
-  row-all g h i j b = g ∙ rw (h, i, j, b .same-id, b .same-time)
+  unfolding rowAt headAt
+  row-all {q = q} g h i j b = g ∙ rw (delta-got s p _ _ h, delta-got s q _ _ i, j, b .same-id, b .same-time)
 
   -- ---- a row, and its labels
 
@@ -70,48 +70,33 @@ module _ (s : List ℕ) (p : ℕ) where
   row-entry-1 false h = rw h
   row-entry-1 true h = rw h
 
-  pub row-entry-2 : (labelled : Bool) (r : StringListRead) {row : Row} {q : ℕ} {why : Refusal} → rowAt s p ≡ got row q
-      → r ≡ labelsRead labelled s q → r ≡ list.Fault why → Refused why ≡ answerEntry (entryAt (rowsType labelled) s p)
-  unfolding exemplarAt
-  row-entry-2 false r h e f = never cc
-  row-entry-2 true r {q = q} h e f = rw (h, list-fault (stringListAt s q) r e f)
-
-  exemplar-all : {q v n first next : ℕ} {id : SeriesId} {time : Timestamp}
+  -- samples have none
+  pub row-entry-2 : {q v : ℕ} {id : SeriesId} {time : Timestamp} (labelled : Bool) → labelled ≡ false
       → rowAt s p ≡ got (record { id = id .0; time = time .0; bits = v }) q
-      → (l : StringList) × (stringListAt s q ≡ got l next) × (length (l .strings) ≡ n) × (l .first ≡ first)
       → Found (record {
-        tag = 4;
+        tag = 2;
         id = id;
         time = time;
         max = timestamp (pos 0);
         bits = v;
-        strings = n;
-        first = offset first;
-        next = offset next;
-      })
-      ≡ answerEntry (exemplarAt s p)
-  unfolding exemplarAt
-  exemplar-all h (l, i, j, k) = rw (h, i, ← j, ← k)
-
-  pub row-entry-all : (labelled : Bool) (r : StringListRead)
-      {q tag v n first next : ℕ} {id : SeriesId} {time : Timestamp}
-      → rowAt s p ≡ got (record { id = id .0; time = time .0; bits = v }) q
-      → r ≡ labelsRead labelled s q → r ≡ list.Got n first next → tag ≡ typeByte (rowsType labelled)
-      → Found (record {
-        tag = tag;
-        id = id;
-        time = time;
-        max = timestamp (pos 0);
-        bits = v;
-        strings = n;
-        first = offset first;
-        next = offset next;
+        strings = 0;
+        first = offset q;
+        next = offset q;
       })
       ≡ answerEntry (entryAt (rowsType labelled) s p)
   unfolding sampleAt
-  row-entry-all false r {q} {n = n} {first} {next} h e f k =
-      let a : n ≡ 0 = cc in
-      let b : first ≡ q = cc in
-      let c : next ≡ q = cc in
-      rw (h, k, a, b, c)
-  row-entry-all true r {q} h e f k = rw k (exemplar-all h (list-got (stringListAt s q) r e f))
+  row-entry-2 false e h = rw h
+  row-entry-2 true e h = never cc
+
+  exemplar : {q v : ℕ} {id : SeriesId} {time : Timestamp} (f : Field StringList)
+      → stringListAt s q ≡ f → rowAt s p ≡ got (record { id = id .0; time = time .0; bits = v }) q
+      → exemplarOf id time v (stringListRead f) ≡ answerEntry (exemplarAt s p)
+  unfolding exemplarAt
+  exemplar (got l next) e h = rw (h, e)
+  exemplar (fault why) e h = rw (h, e)
+
+  pub row-entry-3 : {q v : ℕ} {id : SeriesId} {time : Timestamp} (labelled : Bool) → labelled ≡ true
+      → rowAt s p ≡ got (record { id = id .0; time = time .0; bits = v }) q
+      → exemplarOf id time v (stringListRead (stringListAt s q)) ≡ answerEntry (entryAt (rowsType labelled) s p)
+  row-entry-3 false e h = never cc
+  row-entry-3 {q = q} true e h = exemplar (stringListAt s q) refl h

@@ -11,6 +11,8 @@ use Rattle.big_endian.specs.Fixed.{readBe8}
 use Rattle.wal_types.specs.declared.SeriesId.{SeriesId}
 use Rattle.wal_types.specs.declared.Timestamp.{Timestamp}
 use Rattle.body_format.specs.Fields.{got, uvarintAt, fixedAt}
+use Rattle.body_format.specs.Heads.{headAt}
+use Rattle.body_format.specs.Laws.Heads.{delta-got}
 use Rattle.body_format.specs.Entries.{rowAt}
 use Rattle.body_format.specs.Laws.Fields.{place-same, fixed-got}
 use Rattle.body_fields.specs.declared.Place.the-variants.{At}
@@ -60,8 +62,8 @@ module _ (s : List ℕ) (p : ℕ) (e : isShortRow s p ≡ true) where
   short-bits = fixed-got s (p + 2) (omega (arith, short-inside)) ∙ place-same (omega arith)
 
   pub short-end : At (p + 10) ≡ endOf (rowAt s p)
-  unfolding rowAt
-  short-end = rw (short-id, short-time, short-bits)
+  unfolding rowAt headAt
+  short-end = rw (delta-got s p _ _ short-id, delta-got s (p + 1) _ _ short-time, short-bits)
 
   pub short-read : {bits : ℕ} {id : SeriesId} {time : Timestamp} {found : RowRead}
       → found ≡ rowGot id time (getD s p 0) (getD s (p + 1) 0) bits (p + 10)

@@ -13,6 +13,7 @@ use body_format::EXEMPLARS;
 use body_format::EntryAnswer;
 use body_format::EntryView;
 use body_format::SAMPLES;
+use delta::delta_of_zigzag;
 use wal_types::Offset;
 use wal_types::Refusal;
 use wal_types::SeriesId;
@@ -24,11 +25,15 @@ ghost use mathlib.Core.Path.{_≡_};
 ghost use mathlib.Core.Bool.{Bool, true};
 ghost use Prim.Native.Nat.{_<_};
 ghost use lib.ListN.{length};
-ghost use Rattle.body_format.specs.Entries.{known, typeByte, firstAt, rowAt, entryAt};
+ghost use Rattle.wal_types.specs.Deltas.{plus, toBits, fromBits};
+ghost use Rattle.varint.specs.Varint.{unzigzag};
+ghost use Rattle.body_format.specs.Fields.{stringListAt};
+ghost use Rattle.body_format.specs.Entries.{known, firstAt, rowAt, entryAt};
 ghost use Rattle.body_format.specs.Reading.{answerEntry, entryKnown};
+ghost use Rattle.body_fields.specs.Readings.{stringListRead};
 ghost use Rattle.body_fields.specs.Ends.{endOf};
 ghost use Rattle.body_rows.specs.Rows.{rowsType, placeRead};
-ghost use Rattle.body_rows.specs.Forms.{BaseIn, rowRead, rowGot, isShortRow, labelsRead, rowPlace};
+ghost use Rattle.body_rows.specs.Forms.{BaseIn, rowRead, rowGot, isShortRow, exemplarOf, rowPlace};
 
 // The place after the first id and the first timestamp.
 const ROWS: usize = 17;
@@ -84,21 +89,32 @@ fn is_short_row(body: &[u8], at: usize) -> bool
     body[at + 1] < 128
 }
 
-// A row by its deltas. The first id and the first time come as two numbers, not as a Base: that
-// would be copied by one wide load right after two narrow stores, which stalls.
+// A row's time, by the zigzag of its delta. The rows of a record mostly have one time, and the delta
+// 0 needs no work.
+fn row_time(first: Timestamp, zigzag: u64) -> Timestamp
+    ensures { λ r. ⌜ r .0 ≡ fromBits (plus (toBits (first .0)) (toBits (unzigzag zigzag))) ⌝ }
+{
+    if zigzag == 0 {
+        return Timestamp(first.0);
+    }
+    time_plus(first, delta_of_zigzag(zigzag))
+}
+
+// A row by the zigzags of its deltas. The first id and the first time come as two numbers, not as a
+// Base: that would be copied by one wide load right after two narrow stores, which stalls.
 fn row_of(
     first_id: SeriesId,
     first_time: Timestamp,
-    from_id: u64,
-    from_time: u64,
+    id_zigzag: u64,
+    time_zigzag: u64,
     bits: u64,
     next: usize,
 ) -> RowRead
-    ensures { λ r. ⌜ r ≡ rowGot «first_id» «first_time» «from_id» «from_time» bits next ⌝ }
+    ensures { λ r. ⌜ r ≡ rowGot «first_id» «first_time» «id_zigzag» «time_zigzag» bits next ⌝ }
 {
     RowRead::Got {
-        id: id_plus(first_id, from_id),
-        time: time_plus(first_time, from_time),
+        id: id_plus(first_id, delta_of_zigzag(id_zigzag)),
+        time: row_time(first_time, time_zigzag),
         bits,
         next,
     }
@@ -111,15 +127,15 @@ fn long_row_at(body: &[u8], first_id: SeriesId, first_time: Timestamp, at: usize
 {
     match uvarint_at(body, at) {
         NumberRead::Got {
-            value: from_id,
+            value: id_zigzag,
             next: second,
         } => match uvarint_at(body, second) {
             NumberRead::Got {
-                value: from_time,
+                value: time_zigzag,
                 next: third,
             } => match fixed_at(body, third) {
                 NumberRead::Got { value: bits, next } => {
-                    row_of(first_id, first_time, from_id, from_time, bits, next)
+                    row_of(first_id, first_time, id_zigzag, time_zigzag, bits, next)
                 }
                 NumberRead::Fault(why) => RowRead::Fault(why),
             },
@@ -147,10 +163,10 @@ fn row_at(body: &[u8], first_id: SeriesId, first_time: Timestamp, at: usize) -> 
         let second = at + 1;
         let third = at + 2;
         let next = at + SHORT_ROW;
-        let from_id = body[at] as u64;
-        let from_time = body[second] as u64;
+        let id_zigzag = body[at] as u64;
+        let time_zigzag = body[second] as u64;
         let bits = big_endian::get_be8(body, third);
-        return row_of(first_id, first_time, from_id, from_time, bits, next);
+        return row_of(first_id, first_time, id_zigzag, time_zigzag, bits, next);
     }
     long_row_at(body, first_id, first_time, at)
 }
@@ -168,26 +184,23 @@ fn row_end(body: &[u8], at: usize) -> Place
 
 // ---- a row, and its labels
 
-// The labels after a row; samples have none.
-fn labels_at(body: &[u8], labelled: bool, at: usize) -> StringListRead
-    ensures { λ r. ⌜ r ≡ labelsRead labelled (now (body .entry)) at ⌝ }
+// An exemplar: a row, and the labels that follow it.
+fn exemplar_of(body: &[u8], id: SeriesId, time: Timestamp, bits: u64, labels: usize) -> EntryAnswer
+    ensures { λ r. ⌜ r ≡ exemplarOf id time bits (stringListRead (stringListAt (now (body .entry)) labels)) ⌝ }
 {
-    if labelled {
-        string_list_at(body, at)
-    } else {
-        StringListRead::Got {
-            count: 0,
-            first: at,
-            next: at,
-        }
+    match string_list_at(body, labels) {
+        StringListRead::Got { count, first, next } => EntryAnswer::Found(EntryView {
+            tag: EXEMPLARS,
+            id,
+            time,
+            max: Timestamp(0),
+            bits,
+            strings: count,
+            first: Offset(first),
+            next: Offset(next),
+        }),
+        StringListRead::Fault(why) => EntryAnswer::Refused(why),
     }
-}
-
-// The tag of a body of rows.
-fn row_type(labelled: bool) -> u8
-    ensures { λ r. ⌜ r ≡ typeByte (rowsType labelled) ⌝ }
-{
-    if labelled { EXEMPLARS } else { SAMPLES }
 }
 
 // The entry at a place within the rows.
@@ -206,20 +219,22 @@ fn row_entry_at(
             id,
             time,
             bits,
-            next: labels,
-        } => match labels_at(body, labelled, labels) {
-            StringListRead::Got { count, first, next } => EntryAnswer::Found(EntryView {
-                tag: row_type(labelled),
+            next,
+        } => {
+            if labelled {
+                return exemplar_of(body, id, time, bits, next);
+            }
+            EntryAnswer::Found(EntryView {
+                tag: SAMPLES,
                 id,
                 time,
                 max: Timestamp(0),
                 bits,
-                strings: count,
-                first: Offset(first),
+                strings: 0,
+                first: Offset(next),
                 next: Offset(next),
-            }),
-            StringListRead::Fault(why) => EntryAnswer::Refused(why),
-        },
+            })
+        }
         RowRead::Fault(why) => EntryAnswer::Refused(why),
     }
 }

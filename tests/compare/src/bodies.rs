@@ -612,8 +612,7 @@ fn read_somewhere(rng: &mut Rng, bench: &mut Bench, length: usize) -> Result<(),
     Ok(())
 }
 
-/// The bodies of a real segment, whole and cut; a delta of theirs may mean something else, but it
-/// has to mean the same to both.
+/// The bodies of a real segment, whole and cut.
 pub fn compare_file(rng: &mut Rng, bytes: &[u8]) -> Outcome {
     let mut bench = Bench::new(rng);
     let mut buffer = vec![0; RECORD_MAX];

@@ -6,6 +6,7 @@ pub mod ffi;
 pub mod fixtures;
 pub mod generate;
 pub mod rng;
+pub mod rows;
 pub mod segments;
 pub mod twin;
 

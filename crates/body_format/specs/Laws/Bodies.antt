@@ -22,7 +22,8 @@ use Rattle.body_format.specs.Laws.Bounds.{of-got}
 use Rattle.body_format.specs.Laws.Kept.{be8-kept}
 use Rattle.body_format.specs.Laws.Lists.{entries-end, entries-enough, entries-snoc, entries-whole, first-rows, first-one}
 use Rattle.body_format.specs.Laws.Strings.{row-first, row-later, length-row-later, length-series, length-sample, length-tombstone, length-exemplar, length-metadata}
-use Rattle.body_format.specs.Laws.Entries.{Fits, Firsts, read-entry}
+use Rattle.body_format.specs.Laws.Heads.{Firsts}
+use Rattle.body_format.specs.Laws.Entries.{Fits, read-entry}
 
 -- s is a body of type k with the entries es. In a body of rows, any bytes after the tag begin with
 -- a first id and a first timestamp of 64 bits.

@@ -20,6 +20,7 @@ use Rattle.uvarint.specs.UvarintLaws.{taken}
 use Rattle.varint.specs.Varint.{readVarint}
 use Rattle.varint.specs.VarintLaws.{taken-varint}
 use Rattle.body_format.specs.Fields.{Field, got, fault, andThen, byteAt, fixedAt, uvarintOf, uvarintAt, varintOf, varintAt, StringField, stringAt, stringsAt, stringListAt}
+use Rattle.body_format.specs.Heads.{deltaAt, headAt}
 use Rattle.body_format.specs.Entries.{BodyType, series, samples, tombstones, exemplars, metadata, rowAt, seriesAt, sampleAt, tombstoneAt, exemplarAt, metadataAt, entryAt}
 use Rattle.body_format.specs.Laws.Fields.{byte-got, byte-short, fixed-got, fixed-short}
 
@@ -123,13 +124,24 @@ module _ (s : List ℕ) where
       ahead-then 1 0 1 p (length s) (omega arith) (uvarintAt s p) _ (uvarint-ahead p)
       (λ n q l. ahead-then (2 * n) 0 0 q (length s) (omega arith) (stringsAt (2 * n) s q) _ (strings-ahead (2 * n) q l) (λ ts r m. omega arith))
 
-  -- a row has two deltas and eight bytes
+  -- a delta, at least a byte
+  pub delta-ahead : (p : ℕ) → Ahead 1 p (length s) (deltaAt s p)
+  unfolding deltaAt
+  delta-ahead p = ahead-then 1 0 1 p (length s) (omega arith) (varintAt s p) _ (varint-ahead p) (λ x q l. omega arith)
+
+  -- the head of a row has two
+  pub head-ahead : (p : ℕ) → Ahead 2 p (length s) (headAt s p)
+  unfolding headAt
+  head-ahead p =
+      ahead-then 1 1 2 p (length s) (omega arith) (deltaAt s p) _ (delta-ahead p)
+      (λ d q l. ahead-then 1 0 1 q (length s) (omega arith) (deltaAt s q) _ (delta-ahead q) (λ e next m. omega arith))
+
+  -- a row has a head and eight bytes
   pub row-ahead : (p : ℕ) → Ahead 10 p (length s) (rowAt s p)
   unfolding rowAt
   row-ahead p =
-      ahead-then 1 9 10 p (length s) (omega arith) (uvarintAt s p) _ (uvarint-ahead p)
-      (λ d q l. ahead-then 1 8 9 q (length s) (omega arith) (uvarintAt s q) _ (uvarint-ahead q)
-      (λ e r m. ahead-then 8 0 8 r (length s) (omega arith) (fixedAt s r) _ (fixed-ahead r) (λ v next i. omega arith)))
+      ahead-then 2 8 10 p (length s) (omega arith) (headAt s p) _ (head-ahead p)
+      (λ h q l. ahead-then 8 0 8 q (length s) (omega arith) (fixedAt s q) _ (fixed-ahead q) (λ v next m. omega arith))
 
   -- every entry has a byte at least
   pub entry-ahead : (k : BodyType) (p : ℕ) → Ahead 1 p (length s) (entryAt k s p)

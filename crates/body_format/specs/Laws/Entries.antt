@@ -7,17 +7,17 @@ use Prim.Native.Nat.{ℕ, _+_, _/_, _%_, _^_, _<_}
 use native.Mathlib.Omega.{arith}
 use lib.IntN.{ℤ}
 use lib.Signed.{mag}
-use lib.ListN.{length, drop, length-append}
-use Rattle.wal_types.specs.Deltas.{minus, toBits}
-use Rattle.wal_types.specs.DeltaLaws.{from-to, to-lt, plus-minus, minus-lt}
+use lib.ListN.{length, length-append}
+use Rattle.wal_types.specs.Deltas.{toBits}
 use Rattle.uvarint.specs.Uvarint.{uvarint}
 use Rattle.varint.specs.Varint.{varint}
-use Rattle.big_endian.specs.Fixed.{be8, readBe8}
+use Rattle.big_endian.specs.Fixed.{be8}
 use Rattle.body_format.specs.Fields.{got}
+use Rattle.body_format.specs.Heads.{headBytes}
 use Rattle.body_format.specs.Entries.{hasRows, Entry, seriesEntry, sampleEntry, tombstoneEntry, exemplarEntry, metadataEntry, bodyTypeFor, rowAt, seriesAt, sampleAt, tombstoneAt, exemplarAt, metadataAt, entryAt}
-use Rattle.body_format.specs.Building.{stringListBytes, deltaBytes, rowBytes, entryBytes}
+use Rattle.body_format.specs.Building.{stringListBytes, rowBytes, entryBytes}
 use Rattle.body_format.specs.Laws.Fields.{place-same, Stands, stands-left, stands-right, read-byte, read-fixed, read-uvarint-at, read-varint-at, read-list}
-use Rattle.body_format.specs.Laws.Strings.{row-later}
+use Rattle.body_format.specs.Laws.Heads.{Firsts, read-head}
 
 -- an entry's numbers have 64 bits, and its strings come in pairs
 abbrev pub Fits : Entry → Type 0
@@ -27,38 +27,19 @@ Fits (tombstoneEntry id min max) = (id < 2 ^ 64) × (mag min < 2 ^ 63) × (mag m
 Fits (exemplarEntry id time v ts) = (id < 2 ^ 64) × (mag time < 2 ^ 63) × (v < 2 ^ 64) × (length ts % 2 ≡ 0)
 Fits (metadataEntry id metric ts) = (id < 2 ^ 64) × (length ts % 2 ≡ 0)
 
--- a row after `used` bytes is a later one: the body s has the first id and the first timestamp that
--- buffer b holds, each of 64 bits
-pub record Firsts (b : List ℕ) (used : ℕ) (s : List ℕ) : Type 0 where
-  pub later : used ≡ 1 → ⊥
-  pub id : readBe8 (drop 1 s) ≡ readBe8 (drop 1 b)
-  pub time : readBe8 (drop 9 s) ≡ readBe8 (drop 9 b)
-  pub id-fits : readBe8 (drop 1 b) < 2 ^ 64
-  pub time-fits : readBe8 (drop 9 b) < 2 ^ 64
-
 module _ (b : List ℕ) (used : ℕ) (s : List ℕ) (p : ℕ) where
-  -- a row: adding its deltas modulo 2^64 gives the id and the time back
+  -- a row: its head, and its value
   pub read-row : (id : ℕ) (time : ℤ) (v : ℕ) → id < 2 ^ 64 → mag time < 2 ^ 63 → v < 2 ^ 64 → Firsts b used s
       → Stands s p (rowBytes b used id (toBits time) v)
       → rowAt s p ≡ got (record { id = id; time = time; bits = v }) (p + length (rowBytes b used id (toBits time) v))
-  unfolding rowAt
+  unfolding rowAt rowBytes
   read-row id time v hi ht hv f st =
-      let d : List ℕ = deltaBytes (minus id (readBe8 (drop 1 b))) in
-      let e : List ℕ = deltaBytes (minus (toBits time) (readBe8 (drop 9 b))) in
-      let here : Stands s p (d ++ (e ++ be8 v)) = rw (row-later b used id (toBits time) v (f .later)) at st in
-      let next : Stands s (p + length d) (e ++ be8 v) = stands-right s p d (e ++ be8 v) here in
+      let h : List ℕ = headBytes b used id (toBits time) in
       rw (
-        row-later b used id (toBits time) v (f .later),
-        f .id,
-        f .time,
-        read-uvarint-at s p (minus id (readBe8 (drop 1 b))) (minus-lt id _) (stands-left s p d (e ++ be8 v) here),
-        read-uvarint-at s (p + length d) (minus (toBits time) (readBe8 (drop 9 b))) (minus-lt (toBits time) _) (stands-left s (p + length d) e (be8 v) next),
-        read-fixed s (p + length d + length e) v hv (stands-right s (p + length d) e (be8 v) next),
-        plus-minus id (readBe8 (drop 1 b)) hi (f .id-fits),
-        plus-minus (toBits time) (readBe8 (drop 9 b)) (to-lt time ht) (f .time-fits),
-        from-to time ht,
+        read-head b used s p id time hi ht f (stands-left s p h (be8 v) st),
+        read-fixed s (p + length h) v hv (stands-right s p h (be8 v) st),
       )
-      (place-same (omega (arith, length-append d (e ++ be8 v), length-append e (be8 v))))
+      (place-same (omega (arith, length-append h (be8 v))))
 
   -- an entry of any type, and some place where its strings begin
   pub read-entry : (e : Entry) → Fits e → length (entryBytes b used e) < 2 ^ 64 → (hasRows (bodyTypeFor e) ≡ true → Firsts b used s)

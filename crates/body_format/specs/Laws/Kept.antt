@@ -22,6 +22,7 @@ use Rattle.varint.specs.VarintLaws.{taken-varint, append-value-varint}
 use Rattle.big_endian.specs.Fixed.{readBe8}
 use Rattle.big_endian.specs.FixedLaws.{append-be8}
 use Rattle.body_format.specs.Fields.{Field, got, fault, andThen, byteAt, fixedAt, uvarintOf, uvarintAt, varintOf, varintAt, StringField, stringAt, stringsAt, stringListAt}
+use Rattle.body_format.specs.Heads.{deltaAt, headAt}
 use Rattle.body_format.specs.Entries.{BodyType, series, samples, tombstones, exemplars, metadata, hasRows, rowAt, seriesAt, sampleAt, tombstoneAt, exemplarAt, metadataAt, entryAt}
 use Rattle.body_format.specs.Laws.Fields.{byte-got, byte-short, fixed-got, fixed-short}
 use Rattle.body_format.specs.Laws.Bounds.{Every, uvarint-ahead}
@@ -121,14 +122,25 @@ module _ (s t : List ℕ) where
       kept-then (uvarintAt s p) (uvarintAt (s ++ t) p) _ _ (uvarint-kept p)
       (λ n q. kept-then (stringsAt (2 * n) s q) (stringsAt (2 * n) (s ++ t) q) _ _ (strings-kept (2 * n) q) (λ xs r. refl))
 
-  -- a row, in a body that has its first id and first timestamp
+  -- a delta
+  pub delta-kept : (p : ℕ) → Kept (deltaAt s p) (deltaAt (s ++ t) p)
+  unfolding deltaAt
+  delta-kept p = kept-then (varintAt s p) (varintAt (s ++ t) p) _ _ (varint-kept p) (λ x q. refl)
+
+  -- the head of a row, in a body that has its first id and first timestamp
+  pub head-kept : (p : ℕ) → 17 ≤ length s → Kept (headAt s p) (headAt (s ++ t) p)
+  unfolding headAt
+  head-kept p h =
+      rw (be8-kept s t 1 (omega arith), be8-kept s t 9 (omega arith))
+      (kept-then (deltaAt s p) (deltaAt (s ++ t) p) _ _ (delta-kept p)
+      (λ d q. kept-then (deltaAt s q) (deltaAt (s ++ t) q) _ _ (delta-kept q) (λ e next. refl)))
+
+  -- a row, likewise
   pub row-kept : (p : ℕ) → 17 ≤ length s → Kept (rowAt s p) (rowAt (s ++ t) p)
   unfolding rowAt
   row-kept p h =
-      rw (be8-kept s t 1 (omega arith), be8-kept s t 9 (omega arith))
-      (kept-then (uvarintAt s p) (uvarintAt (s ++ t) p) _ _ (uvarint-kept p)
-      (λ d q. kept-then (uvarintAt s q) (uvarintAt (s ++ t) q) _ _ (uvarint-kept q)
-      (λ e r. kept-then (fixedAt s r) (fixedAt (s ++ t) r) _ _ (fixed-kept r) (λ w next. refl))))
+      kept-then (headAt s p) (headAt (s ++ t) p) _ _ (head-kept p h)
+      (λ d q. kept-then (fixedAt s q) (fixedAt (s ++ t) q) _ _ (fixed-kept q) (λ w next. refl))
 
   -- an entry of any type
   pub entry-kept : (k : BodyType) (p : ℕ) → (hasRows k ≡ true → 17 ≤ length s) → Kept (entryAt k s p) (entryAt k (s ++ t) p)

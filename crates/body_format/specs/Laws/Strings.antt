@@ -3,24 +3,25 @@
 -- Assumes nothing.
 use mathlib.Core.Path.{_≡_, refl, ap, _∙_}
 use mathlib.Core.Bool.{Bool, true, false, _||_, not}
-use mathlib.Core.List.{List, [], _∷_, _++_}
+use mathlib.Core.List.{List, [], _∷_, _++_, append-assoc}
 use Prim.Native.Nat.{ℕ, suc, _+_, _%_, _≤_, _<_}
 use native.Mathlib.Numerals.{add-one}
 use native.Mathlib.Omega.{arith}
-use borrow.Author.Tests.{eq-eqb, ne-eqb, eqb-false}
+use borrow.Author.Tests.{eq-eqb, eqb-false}
 use lib.IntN.{ℤ}
 use lib.ListN.{length, getD, take, drop, length-append}
 use lib.Seq.{drop-cons, drop-drop, length-take-le}
 use lib.Dec.{eqb}
 use Rattle.wal_types.specs.Deltas.{minus, toBits}
 use Rattle.uvarint.specs.Uvarint.{uvarint}
-use Rattle.uvarint.specs.UvarintLaws.{length-one}
 use Rattle.varint.specs.Varint.{varint}
 use Rattle.big_endian.specs.Fixed.{be8, readBe8}
 use Rattle.big_endian.specs.FixedLaws.{length-be8}
 use Rattle.body_format.specs.Entries.{seriesEntry, sampleEntry, tombstoneEntry, exemplarEntry, metadataEntry}
-use Rattle.body_format.specs.Building.{stringsBytes, stringListBytes, deltaBytes, rowBytes, entryBytes, cutStrings, total, badList}
+use Rattle.body_format.specs.Heads.{deltaBytes}
+use Rattle.body_format.specs.Building.{stringsBytes, stringListBytes, rowBytes, entryBytes, cutStrings, total, badList}
 use Rattle.body_format.specs.Laws.Fields.{length-strings}
+use Rattle.body_format.specs.Laws.Heads.{length-delta-0, head-first, head-later}
 
 -- ---- one slice of bytes, and one of lengths
 
@@ -73,14 +74,20 @@ module _ (b : List ℕ) (used : ℕ) where
   pub row-first : (id time v : ℕ) → used ≡ 1
       → rowBytes b used id time v ≡ be8 id ++ (be8 time ++ (deltaBytes 0 ++ (deltaBytes 0 ++ be8 v)))
   unfolding rowBytes
-  row-first id time v h = rw (eq-eqb used 1 h)
+  row-first id time v h =
+      rw (
+        head-first b used id time h,
+        append-assoc (be8 id) (be8 time ++ (deltaBytes 0 ++ deltaBytes 0)) (be8 v),
+        append-assoc (be8 time) (deltaBytes 0 ++ deltaBytes 0) (be8 v),
+        append-assoc (deltaBytes 0) (deltaBytes 0) (be8 v),
+      )
 
   -- a later one: its deltas, and its value
   pub row-later : (id time v : ℕ) → (used ≡ 1 → ⊥)
       → rowBytes b used id time v
       ≡ deltaBytes (minus id (readBe8 (drop 1 b))) ++ (deltaBytes (minus time (readBe8 (drop 9 b))) ++ be8 v)
   unfolding rowBytes
-  row-later id time v h = rw (ne-eqb used 1 h)
+  row-later id time v h = rw (head-later b used id time h) (append-assoc (deltaBytes (minus id (readBe8 (drop 1 b)))) _ (be8 v))
 
   -- 26 bytes
   pub length-row-first : (id time v : ℕ) → used ≡ 1 → length (rowBytes b used id time v) ≡ 26
@@ -92,7 +99,7 @@ module _ (b : List ℕ) (used : ℕ) where
         length-append (be8 time) (deltaBytes 0 ++ (deltaBytes 0 ++ be8 v)),
         length-append (deltaBytes 0) (deltaBytes 0 ++ be8 v),
         length-append (deltaBytes 0) (be8 v),
-        length-one 0 (omega arith),
+        length-delta-0,
         length-be8 id,
         length-be8 time,
         length-be8 v,
@@ -101,7 +108,7 @@ module _ (b : List ℕ) (used : ℕ) where
   -- two deltas and 8 bytes
   pub length-row-later : (id time v : ℕ) → (used ≡ 1 → ⊥)
       → length (rowBytes b used id time v)
-      ≡ length (uvarint (minus id (readBe8 (drop 1 b)))) + length (uvarint (minus time (readBe8 (drop 9 b)))) + 8
+      ≡ length (deltaBytes (minus id (readBe8 (drop 1 b)))) + length (deltaBytes (minus time (readBe8 (drop 9 b)))) + 8
   length-row-later id time v h =
       rw (row-later id time v h)
       (omega (

@@ -11,8 +11,8 @@ returns c =
     let second = third .before .before .before .before in
     let first = second .before .before .before .before in
     row-all _ _ (c .row-of .ensures)
-    (number-got _ _ (first .uvarint-at .ensures) (second .before .before .from-id .given .1))
-    (number-got _ _ (second .uvarint-at2 .ensures) (third .before .before .from-time .given .1))
+    (number-got _ _ (first .uvarint-at .ensures) (second .before .before .id-zigzag .given .1))
+    (number-got _ _ (second .uvarint-at2 .ensures) (third .before .before .time-zigzag .given .1))
     (number-got _ _ (third .fixed-at .ensures) (c .before .before .bits .given .1))
     (first .before .before .pre)
 
@@ -22,8 +22,8 @@ returns-2 c =
     let second = third .before .before .before .before in
     let first = second .before .before .before .before in
     row-3 _ _
-    (number-got _ _ (first .uvarint-at .ensures) (second .before .before .from-id .given .1))
-    (number-got _ _ (second .uvarint-at2 .ensures) (third .before .before .from-time .given .1))
+    (number-got _ _ (first .uvarint-at .ensures) (second .before .before .id-zigzag .given .1))
+    (number-got _ _ (second .uvarint-at2 .ensures) (third .before .before .time-zigzag .given .1))
     (number-fault _ _ (third .fixed-at .ensures) (c .before .why .given .1))
 
 returns-3 : tie.Need-returns-3
@@ -31,7 +31,7 @@ returns-3 c =
     let second = c .before .before .before in
     let first = second .before .before .before .before in
     row-2 _ _
-    (number-got _ _ (first .uvarint-at .ensures) (second .before .before .from-id .given .1))
+    (number-got _ _ (first .uvarint-at .ensures) (second .before .before .id-zigzag .given .1))
     (number-fault _ _ (second .uvarint-at2 .ensures) (c .before .why2 .given .1))
 
 returns-4 : tie.Need-returns-4

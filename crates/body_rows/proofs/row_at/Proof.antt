@@ -23,17 +23,17 @@ add-third c = omega (arith, short-inside _ _ (is-short c))
 add-next : tie.Need-add-next
 add-next c = omega (arith, short-inside _ _ (is-short c))
 
-shared-slice-read-from-id : tie.Need-shared-slice-read-from-id
-shared-slice-read-from-id c = omega (arith, short-inside _ _ (is-short (c .before)))
+shared-slice-read-id-zigzag : tie.Need-shared-slice-read-id-zigzag
+shared-slice-read-id-zigzag c = omega (arith, short-inside _ _ (is-short (c .before)))
 
-cast-from-id : tie.Need-cast-from-id
-cast-from-id c = omega (arith, c .shared-slice-known2 .given (c .before .before .before .before .args .at))
+cast-id-zigzag : tie.Need-cast-id-zigzag
+cast-id-zigzag c = omega (arith, c .shared-slice-known2 .given (c .before .before .before .before .args .at))
 
-shared-slice-read-from-time : tie.Need-shared-slice-read-from-time
-shared-slice-read-from-time c = omega (arith, short-inside _ _ (is-short (c .before .before)))
+shared-slice-read-time-zigzag : tie.Need-shared-slice-read-time-zigzag
+shared-slice-read-time-zigzag c = omega (arith, short-inside _ _ (is-short (c .before .before)))
 
-cast-from-time : tie.Need-cast-from-time
-cast-from-time c =
+cast-time-zigzag : tie.Need-cast-time-zigzag
+cast-time-zigzag c =
     omega (arith, c .shared-slice-known3 .given (c .before .before .before .before .before .args .at + 1))
 
 returns : tie.Need-returns
@@ -49,10 +49,10 @@ row-at-spec =
     add-second
     add-third
     add-next
-    shared-slice-read-from-id
-    cast-from-id
-    shared-slice-read-from-time
-    cast-from-time
+    shared-slice-read-id-zigzag
+    cast-id-zigzag
+    shared-slice-read-time-zigzag
+    cast-time-zigzag
     (λ c κs. search needs)
     (λ c κs. search needs)
     returns

@@ -2,7 +2,7 @@
 //! on the real segments of a folder; nonzero on the first difference, with the seed and the case.
 
 use compare::rng::Rng;
-use compare::{bodies, checksums, fixtures, segments, Group, Outcome};
+use compare::{bodies, checksums, fixtures, rows, segments, Group, Outcome};
 use std::io::Write;
 use std::path::Path;
 use std::process::ExitCode;
@@ -35,6 +35,7 @@ fn compare_all(seed: u64, folder: Option<&String>) -> Outcome {
     if let Some(folder) = folder {
         let folder = Path::new(folder);
         total += run("fixtures", || compare_fixtures(&mut Rng::new(seed), folder))?;
+        total += run("fixtures' entries", || compare_rows(folder))?;
     }
     Ok(total)
 }
@@ -60,6 +61,23 @@ fn compare_fixtures(rng: &mut Rng, folder: &Path) -> Outcome {
             .map_err(|case| format!("{}: {case}", fixture.path.display()))?;
     }
     Ok(cases)
+}
+
+/// Each real segment, entry by entry as Prometheus' own decoder read it.
+fn compare_rows(folder: &Path) -> Outcome {
+    let mut total = rows::Compared::default();
+    for fixture in fixtures::read_folder(folder)? {
+        let Some(text) = &fixture.rows else { continue };
+        let compared = rows::compare_file(&fixture.bytes, text)
+            .map_err(|case| format!("{}: {case}", fixture.path.display()))?;
+        total.lines += compared.lines;
+        total.passed_over += compared.passed_over;
+    }
+    if total.lines == 0 {
+        return Err(format!("{}: no entries", folder.display()));
+    }
+    print!("(and {} of types 7 and 8 passed over) ", total.passed_over);
+    Ok(total.lines)
 }
 
 fn compare_file(rng: &mut Rng, bytes: &[u8]) -> Outcome {

@@ -54,6 +54,7 @@ fn compare_fixtures(program: &str, folder: &Path) -> Result<u64, String> {
         path,
         bytes,
         listing,
+        ..
     } in &fixtures
     {
         let name = path.display();
