@@ -2,6 +2,8 @@
 # make test      everything that has to hold: rt ci, then the comparisons (tools/gate); .ci/run calls it
 # make bench     our speed beside the second program's and the SSE4.2 instruction's, in one run (half a minute)
 # make valgrind  the C test and the listing on hostile inputs under valgrind (slow, not part of the test)
+# make interop   stock Prometheus reads what the archive writes; installs Debian's prometheus package
+#                where it is missing (not part of the test)
 
 export CARGO_TARGET_DIR := $(CURDIR)/build/cargo
 ARCHIVE := target/staticlib/libdepot_wal.a
@@ -9,7 +11,7 @@ CFLAGS := -std=c99 -Wall -Wextra -Wpedantic -Werror -O2 -Iinclude
 
 SOURCES := crates.txt tools/archive $(shell find crates -type f)
 
-.PHONY: demo test bench valgrind clean
+.PHONY: demo test bench valgrind interop clean
 
 demo: $(ARCHIVE)
 	@mkdir -p build
@@ -30,6 +32,11 @@ valgrind: $(ARCHIVE)
 	@for f in tests/fixtures/*_00000000 $(ARCHIVE) Makefile; do \
 	    valgrind --quiet --error-exitcode=1 target/bin/list <$$f >/dev/null || exit 1; done
 	@echo 'valgrind: no error'
+
+interop: $(ARCHIVE)
+	@mkdir -p build
+	@gcc $(CFLAGS) tests/interop/*.c $(ARCHIVE) -o build/interop
+	@tests/interop/run build/interop
 
 # Only proved crates are built: the first time this proves the library, which takes minutes; then only what has changed.
 $(ARCHIVE): $(SOURCES)
