@@ -39,23 +39,25 @@
  * What a call returns
  *   DEPOT_WAL_DONE (0)  no error: the result is in *out
  *   DEPOT_WAL_END       there is nothing more to read; this is no error either
+ *   DEPOT_WAL_MORE      the next page of the feed is asked for; nor is this
  *   otherwise           an error; depot_wal_status_text has a text for it. The comment of each call
  *                       lists its errors in the order in which they are checked.
  *
  * What is in *out afterwards (every field is always written)
  *   A call that reads: the fields as the struct names them. On an error the first field is the
- *   place of the error and the others are 0; at an end all are 0.
+ *   place of the error and the others are 0; at an end, and where more is asked for, all are 0.
  *   A call that writes: the first field, `next` or `used`, is what to pass to the next call. On an
  *   error that is the value which this call was given (0 when starting a body), so always go on
  *   with it. `error_at` is the place of the error, else 0.
  *   A place is an offset in the segment or in the body.
- *   On an error or at an end nothing but *out has changed.
+ *   On an error or at an end nothing but *out has changed; of the page feed, see there.
  *
  * What the caller owes
- *   - Every pointer is valid for its length, `out` and `table` for their declared size, and aligned
- *     for its type. A pointer whose length is 0 may be NULL. `out` and `table` are never NULL.
- *   - What a call may write (the segment of a write, the buffer, `out`, the table to be filled)
- *     does not overlap anything else that is passed to the same call.
+ *   - Every pointer is valid for its length, `out`, `table` and `state` for their declared size,
+ *     and aligned for its type. A pointer whose length is 0 may be NULL. `out`, `table` and `state`
+ *     are never NULL.
+ *   - What a call may write (the segment of a write, the buffer, `out`, `state`, the table to be
+ *     filled) does not overlap anything else that is passed to the same call.
  *   - Nobody else writes any of this memory while the call runs.
  *   Nothing more: any bytes, place, length, type and number get a defined result.
  *
@@ -113,6 +115,7 @@ extern "C" {
 #define DEPOT_WAL_SEGMENT_MAX  134217728u /* a segment at most */
 
 #define DEPOT_WAL_TABLE_LEN 2048 /* numbers in the checksum's table */
+#define DEPOT_WAL_FEED_LEN  16   /* numbers in the state of a page feed */
 
 /* The types of record bodies. */
 enum depot_wal_type {
@@ -130,8 +133,8 @@ typedef uint32_t depot_wal_status;
 
 enum {
     DEPOT_WAL_DONE = 0,          /* no error */
-    DEPOT_WAL_BAD_BUFFER = 1,    /* a segment or record buffer of a length that is not allowed */
-    DEPOT_WAL_BAD_PLACE = 2,     /* no such place, or no such state of a body */
+    DEPOT_WAL_BAD_BUFFER = 1,    /* a segment, page or buffer of a length that is not allowed */
+    DEPOT_WAL_BAD_PLACE = 2,     /* no such place, or no such state of a body or feed */
     DEPOT_WAL_RESERVED = 3,      /* a reserved bit is set in a type byte */
     DEPOT_WAL_COMPRESSED = 4,    /* a compression bit is set in a type byte */
     DEPOT_WAL_BAD_TYPE = 5,      /* a fragment of kind 5, 6 or 7 */
@@ -149,7 +152,8 @@ enum {
     DEPOT_WAL_LIST_FULL = 24,    /* more entries than a list holds; no call here returns it */
     DEPOT_WAL_BAD_LIST = 25,     /* an odd number of strings, or lengths that do not add up */
     DEPOT_WAL_WRONG_KIND = 26,   /* an entry for a body of another type */
-    DEPOT_WAL_END = 200          /* the end of the log or of the body; no error */
+    DEPOT_WAL_END = 200,         /* the end of the log or of the body; no error */
+    DEPOT_WAL_MORE = 201         /* the next page is asked for; no error */
 };
 
 /* The text of a status, for a log line or a terminal. Never NULL. */
@@ -177,6 +181,7 @@ static inline const char *depot_wal_status_text(depot_wal_status status)
     case DEPOT_WAL_BAD_LIST: return "odd number of strings, or lengths that do not add up";
     case DEPOT_WAL_WRONG_KIND: return "entry for a body of another type";
     case DEPOT_WAL_END: return "nothing more to read";
+    case DEPOT_WAL_MORE: return "the next page is asked for";
     default: return "unknown status";
     }
 }
@@ -200,6 +205,11 @@ struct depot_wal_record {
     uint64_t start;  /* the place of its first fragment; on an error: the place of the error */
     uint64_t length; /* its bytes, which are the first of the buffer */
     uint64_t next;   /* the place after it, for the next read; for a write see "Resuming" above */
+};
+
+/* Of feeding a page. */
+struct depot_wal_fed {
+    uint64_t error_at; /* the place of the error, else 0 */
 };
 
 /* Of the check of a body. */
@@ -229,7 +239,8 @@ struct depot_wal_string {
  * at compile time. */
 typedef char depot_wal_layout[
     sizeof(struct depot_wal_written) == 2 * 8 && sizeof(struct depot_wal_built) == 2 * 8 &&
-    sizeof(struct depot_wal_record) == 3 * 8 && sizeof(struct depot_wal_count) == 1 * 8 &&
+    sizeof(struct depot_wal_record) == 3 * 8 && sizeof(struct depot_wal_fed) == 1 * 8 &&
+    sizeof(struct depot_wal_count) == 1 * 8 &&
     sizeof(struct depot_wal_entry) == 8 * 8 && sizeof(struct depot_wal_string) == 2 * 8 ? 1 : -1];
 
 /* ---- the segment ---- */
@@ -273,6 +284,60 @@ depot_wal_status depot_wal_write(uint8_t *segment, size_t segment_len, size_t pl
 depot_wal_status depot_wal_read(const uint8_t *segment, size_t segment_len, size_t place,
                                 uint8_t *buffer, size_t buffer_len,
                                 struct depot_wal_record *out);
+
+/* ---- the page feed: a segment read page by page, for those who cannot hold it whole ---- */
+
+/* A feed keeps a state of DEPOT_WAL_FEED_LEN numbers, which belong to the library, between the
+ * calls. Start it, then read; where a read returns DEPOT_WAL_MORE, feed the next page and read on.
+ * Every page is DEPOT_WAL_PAGE bytes but the last, which is shorter, or empty where the segment is
+ * whole pages, and ends the feed:
+ *
+ *     depot_wal_feed_start(state);
+ *     while ((status = depot_wal_feed_read(state, page, n, buffer, sizeof buffer, &record)) ==
+ *                DEPOT_WAL_DONE || status == DEPOT_WAL_MORE) {
+ *         if (status == DEPOT_WAL_DONE) {
+ *             fwrite(buffer, 1, record.length, stdout);
+ *             continue;
+ *         }
+ *         n = fread(page, 1, sizeof page, stdin); // n is 0 before the first page
+ *         if (depot_wal_feed_page(state, page, n, &fed) != DEPOT_WAL_DONE)
+ *             break; // above DEPOT_WAL_SEGMENT_MAX
+ *     }
+ *
+ * The results are those of depot_wal_read on all the pages as one segment, as long as the page
+ * that was fed is the same at every read until more is asked for, and so is the buffer while a
+ * record is open. A state that no call left, of numbers beyond the limits, is
+ * DEPOT_WAL_BAD_PLACE with place 0, before all else, and nothing but *out changes. */
+
+/* Starts a feed. No errors; changes the state. */
+void depot_wal_feed_start(uint64_t state[DEPOT_WAL_FEED_LEN]);
+
+/* Feeds the next page.
+ * Result: error_at is 0.
+ * Errors, with error_at:
+ *   the last read's        its place  a read has returned an error that is about the bytes, other
+ *                                     than DEPOT_WAL_TORN: every feed returns it again
+ *   DEPOT_WAL_BAD_BUFFER   0          the page is above DEPOT_WAL_PAGE, or all pages together above
+ *                                     DEPOT_WAL_SEGMENT_MAX
+ *   DEPOT_WAL_BAD_PLACE    0          the last page was fed, or no read has asked for this one
+ * Changes: the state, where the page is taken, and *out. */
+depot_wal_status depot_wal_feed_page(uint64_t state[DEPOT_WAL_FEED_LEN], const uint8_t *page,
+                                     size_t page_len, struct depot_wal_fed *out);
+
+/* Reads the next record into the buffer. `page` is the one fed last, passed again; where more is
+ * asked for, and before the first, it is not looked at.
+ * Result: the record's start, its length and the place after it, all in the segment; DEPOT_WAL_MORE
+ * where the pages so far give no further answer; DEPOT_WAL_END at a clean end.
+ * Errors, with the place in `start`:
+ *   DEPOT_WAL_BAD_BUFFER  0  the buffer is below DEPOT_WAL_RECORD_MAX
+ *   DEPOT_WAL_BAD_BUFFER  0  the page has another length than the one fed last
+ *   then those of depot_wal_read about the bytes, again at every later read
+ * Changes: the buffer, where each fragment of a record is stored at its offset in the record once
+ * its checksum is good, also where the call then returns something else than DEPOT_WAL_DONE; the
+ * state, and *out. */
+depot_wal_status depot_wal_feed_read(uint64_t state[DEPOT_WAL_FEED_LEN], const uint8_t *page,
+                                     size_t page_len, uint8_t *buffer, size_t buffer_len,
+                                     struct depot_wal_record *out);
 
 /* ---- the checksum, and its table for those who read or write many short records ---- */
 

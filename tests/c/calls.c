@@ -43,6 +43,7 @@ union result {
     struct depot_wal_written written;
     struct depot_wal_built built;
     struct depot_wal_record record;
+    struct depot_wal_fed fed;
     struct depot_wal_count count;
     struct depot_wal_entry entry;
     struct depot_wal_string string;
@@ -57,13 +58,14 @@ static int gives(depot_wal_status got, depot_wal_status status, const void *want
            all(result + n, 2 * sizeof *out - n, PATTERN);
 }
 
-/* Whether the call returns the status and writes exactly this result: one of the six below, where
+/* Whether the call returns the status and writes exactly this result: one of the seven below, where
  * fields that are not named are 0. */
 #define GIVES(call, status, ...) \
     (memset(guarded, PATTERN, sizeof guarded), gives((call), (status), __VA_ARGS__))
 #define WRITTEN(...) &(struct depot_wal_written){__VA_ARGS__}, sizeof(struct depot_wal_written)
 #define BUILT(...) &(struct depot_wal_built){__VA_ARGS__}, sizeof(struct depot_wal_built)
 #define RECORD(...) &(struct depot_wal_record){__VA_ARGS__}, sizeof(struct depot_wal_record)
+#define FED(...) &(struct depot_wal_fed){__VA_ARGS__}, sizeof(struct depot_wal_fed)
 #define COUNT(...) &(struct depot_wal_count){__VA_ARGS__}, sizeof(struct depot_wal_count)
 #define ENTRY(...) &(struct depot_wal_entry){__VA_ARGS__}, sizeof(struct depot_wal_entry)
 #define STRING(...) &(struct depot_wal_string){__VA_ARGS__}, sizeof(struct depot_wal_string)
@@ -102,6 +104,7 @@ static void layouts(void)
     FIELD(depot_wal_record, 0, start);
     FIELD(depot_wal_record, 1, length);
     FIELD(depot_wal_record, 2, next);
+    FIELD(depot_wal_fed, 0, error_at);
     FIELD(depot_wal_count, 0, count);
     FIELD(depot_wal_entry, 0, type);
     FIELD(depot_wal_entry, 1, id);
@@ -119,8 +122,8 @@ static void layouts(void)
 static void texts(void)
 {
     static const depot_wal_status known[] = {0,  1,  2,  3,  4,  5,  6,  7,  8,  9,  10,
-                                             11, 12, 20, 21, 22, 23, 24, 25, 26, 200};
-    static const depot_wal_status unknown[] = {13, 19, 27, 199, 201, UINT32_MAX};
+                                             11, 12, 20, 21, 22, 23, 24, 25, 26, 200, 201};
+    static const depot_wal_status unknown[] = {13, 19, 27, 199, 202, UINT32_MAX};
     for (size_t i = 0; i < sizeof known / sizeof *known; i++) {
         const char *text = depot_wal_status_text(known[i]);
         int own = strcmp(text, "unknown status") != 0;
@@ -506,6 +509,191 @@ static void several_records(void)
     }
 }
 
+/* ---- the page feed ---- */
+
+/* The state between two guards, and as it was before a call. */
+static uint64_t states[DEPOT_WAL_FEED_LEN + 2], was[DEPOT_WAL_FEED_LEN + 2];
+static uint64_t *const state = &states[1];
+
+static void feed_starts(void)
+{
+    memset(states, PATTERN, sizeof states);
+    depot_wal_feed_start(state);
+    CHECK(all((uint8_t *)states, 8, PATTERN) &&
+          all((uint8_t *)(state + DEPOT_WAL_FEED_LEN), 8, PATTERN));
+}
+
+static void feeds(int line, const uint8_t *page, size_t n)
+{
+    check(line, GIVES(depot_wal_feed_page(state, page, n, &out->fed), DONE, FED(0)), "feed");
+}
+
+static void feed_fails(int line, const uint8_t *page, size_t n, depot_wal_status status,
+                       uint64_t at)
+{
+    memcpy(was, states, sizeof states);
+    check(line, GIVES(depot_wal_feed_page(state, page, n, &out->fed), status, FED(.error_at = at)),
+          "error of a feed");
+    check(line, memcmp(states, was, sizeof states) == 0, "an error leaves the state");
+}
+
+/* A read of the page that gives a record, or another status with its place. */
+static void feed_reads(int line, const uint8_t *page, size_t n, size_t start, size_t length,
+                       size_t next)
+{
+    check(line, GIVES(depot_wal_feed_read(state, page, n, buffer, sizeof buffer, &out->record),
+                      DONE, RECORD(.start = start, .length = length, .next = next)),
+          "read of a page");
+}
+
+static void feed_stops(int line, const uint8_t *page, size_t n, depot_wal_status status,
+                       uint64_t at)
+{
+    check(line, GIVES(depot_wal_feed_read(state, page, n, buffer, sizeof buffer, &out->record),
+                      status, RECORD(.start = at)),
+          "read of a page");
+}
+
+/* The same again: the status, the state and the buffer stay. */
+static void feed_stays(int line, const uint8_t *page, size_t n, depot_wal_status status,
+                       uint64_t at)
+{
+    static uint8_t before[sizeof buffer];
+    memcpy(was, states, sizeof states);
+    memcpy(before, buffer, sizeof buffer);
+    feed_stops(line, page, n, status, at);
+    check(line, memcmp(states, was, sizeof states) == 0, "the state stays");
+    check(line, memcmp(buffer, before, sizeof buffer) == 0, "the buffer stays");
+}
+
+/* The first n bytes of `record` in the buffer, the rest unchanged. */
+static int holds(size_t n)
+{
+    return memcmp(buffer, record, n) == 0 && all(buffer + n, sizeof buffer - n, 0x5C);
+}
+
+/* The longest record over three pages, fragment by fragment, and every order of calls that is an
+ * error. */
+static void feed_order(void)
+{
+    fill_record();
+    memset(segment, 0xAA, sizeof segment);
+    writes(__LINE__, 3 * PAGE, 0, 65536, 65557);
+    memset(buffer, 0x5C, sizeof buffer);
+    feed_starts();
+    feed_stays(__LINE__, NULL, 0, DEPOT_WAL_MORE, 0); /* before the first page */
+    feed_fails(__LINE__, segment, PAGE + 1, DEPOT_WAL_BAD_BUFFER, 0);
+    feeds(__LINE__, segment, PAGE);
+    feed_fails(__LINE__, segment, PAGE, DEPOT_WAL_BAD_PLACE, 0); /* nobody has asked */
+    feed_fails(__LINE__, segment, PAGE + 1, DEPOT_WAL_BAD_BUFFER, 0);
+    feed_stays(__LINE__, segment, PAGE - 1, DEPOT_WAL_BAD_BUFFER, 0);
+    CHECK(GIVES(depot_wal_feed_read(state, segment, PAGE, buffer, 65535, &out->record),
+                DEPOT_WAL_BAD_BUFFER, RECORD(.start = 0)));
+    CHECK(holds(0));
+    feed_stops(__LINE__, segment, PAGE, DEPOT_WAL_MORE, 0);
+    CHECK(holds(32761));
+    feed_stays(__LINE__, NULL, 0, DEPOT_WAL_MORE, 0); /* the page may be gone now */
+    feeds(__LINE__, segment + PAGE, PAGE);
+    feed_stops(__LINE__, segment + PAGE, PAGE, DEPOT_WAL_MORE, 0);
+    CHECK(holds(65522));
+    feeds(__LINE__, segment + 2 * PAGE, 21);
+    feed_reads(__LINE__, segment + 2 * PAGE, 21, 0, 65536, 65557);
+    CHECK(holds(65536));
+    feed_stays(__LINE__, segment + 2 * PAGE, 21, DEPOT_WAL_END, 0);
+    feed_fails(__LINE__, segment, PAGE, DEPOT_WAL_BAD_PLACE, 0); /* the last page was fed */
+    feed_fails(__LINE__, segment, PAGE + 1, DEPOT_WAL_BAD_BUFFER, 0);
+
+    /* The segment ends with the first page. */
+    memset(buffer, 0x5C, sizeof buffer);
+    feed_starts();
+    feeds(__LINE__, segment, PAGE);
+    feed_stops(__LINE__, segment, PAGE, DEPOT_WAL_MORE, 0);
+    feeds(__LINE__, NULL, 0);
+    feed_stops(__LINE__, NULL, 0, DEPOT_WAL_TORN, 0);
+    CHECK(holds(32761));
+    feed_stays(__LINE__, NULL, 0, DEPOT_WAL_TORN, 0);
+    feed_fails(__LINE__, segment, PAGE, DEPOT_WAL_BAD_PLACE, 0);
+
+    /* The second fragment is corrupt: the first is stored, and every feed gives the error. */
+    segment[40000] ^= 1;
+    memset(buffer, 0x5C, sizeof buffer);
+    feed_starts();
+    feeds(__LINE__, segment, PAGE);
+    feed_stops(__LINE__, segment, PAGE, DEPOT_WAL_MORE, 0);
+    feeds(__LINE__, segment + PAGE, PAGE);
+    feed_stops(__LINE__, segment + PAGE, PAGE, DEPOT_WAL_BAD_SUM, PAGE);
+    CHECK(holds(32761));
+    feed_stays(__LINE__, segment + PAGE, PAGE, DEPOT_WAL_BAD_SUM, PAGE);
+    feed_fails(__LINE__, segment, PAGE, DEPOT_WAL_BAD_SUM, PAGE);
+    feed_fails(__LINE__, segment, PAGE + 1, DEPOT_WAL_BAD_SUM, PAGE);
+}
+
+/* The limit of a segment, and states that no call leaves. */
+static void feed_limits(void)
+{
+    memset(segment, 0, sizeof segment);
+    memset(buffer, 0x5C, sizeof buffer);
+    feed_starts();
+    for (int i = 0; i < 4096; i++) {
+        feeds(__LINE__, segment, PAGE);
+        feed_stops(__LINE__, segment, PAGE, DEPOT_WAL_MORE, 0);
+    }
+    feed_fails(__LINE__, segment, 1, DEPOT_WAL_BAD_BUFFER, 0);
+    feeds(__LINE__, NULL, 0);
+    feed_stops(__LINE__, NULL, 0, DEPOT_WAL_END, 0);
+
+    memset(state, 0xFF, 8 * DEPOT_WAL_FEED_LEN);
+    feed_fails(__LINE__, segment, PAGE + 1, DEPOT_WAL_BAD_PLACE, 0);
+    feed_stays(__LINE__, segment, PAGE, DEPOT_WAL_BAD_PLACE, 0);
+    CHECK(GIVES(depot_wal_feed_read(state, NULL, 0, NULL, 0, &out->record), DEPOT_WAL_BAD_PLACE,
+                RECORD(.start = 0)));
+}
+
+/* The first n bytes of `segment` by the feed: the same results as by reads of the slice. */
+static void feed_as_slice(size_t n)
+{
+    static uint8_t other[sizeof buffer];
+    struct depot_wal_record want;
+    size_t place = 0, fed = 0, size = 0;
+    feed_starts();
+    for (;;) {
+        depot_wal_status status = depot_wal_read(segment, n, place, other, sizeof other, &want);
+        depot_wal_status got;
+        while ((got = depot_wal_feed_read(state, segment + fed - size, size, buffer, sizeof buffer,
+                                          &out->record)) == DEPOT_WAL_MORE) {
+            size = n - fed < PAGE ? n - fed : PAGE;
+            feeds(__LINE__, segment + fed, size);
+            fed += size;
+        }
+        CHECK(got == status && memcmp(&out->record, &want, sizeof want) == 0);
+        if (status != DONE)
+            return;
+        CHECK(memcmp(buffer, other, want.length) == 0);
+        place = want.next;
+    }
+}
+
+/* Records of many lengths, cut at many places, whole and corrupt. */
+static void feed_cuts(void)
+{
+    static const size_t sizes[] = {37, 0, 32761, 1, 20000, 12754, 7, 32762, 100};
+    size_t place = 0, i = 0;
+    fill_record();
+    memset(segment, 0, sizeof segment);
+    while (depot_wal_write(segment, sizeof segment, place, record, sizes[i % 9], &out->written) ==
+           DONE) {
+        place = out->written.next;
+        i++;
+    }
+    for (size_t n = 0; n <= sizeof segment; n += n % PAGE < 50 || n % PAGE > PAGE - 20 ? 1 : 997)
+        feed_as_slice(n);
+    for (size_t at = 3; at < sizeof segment; at += 4999) {
+        segment[at] ^= 0x41;
+        feed_as_slice(sizeof segment);
+        segment[at] ^= 0x41;
+    }
+}
+
 /* ---- bodies ---- */
 
 struct entry {
@@ -884,6 +1072,9 @@ int main(int argc, char **argv)
     corrupt_bytes();
     foreign_bytes();
     several_records();
+    feed_order();
+    feed_limits();
+    feed_cuts();
     starts();
     series();
     samples();

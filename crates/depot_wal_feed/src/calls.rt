@@ -1,0 +1,113 @@
+// The three C calls of the page feed.
+ghost use mathlib.Core.Path.{_≡_};
+ghost use Rattle.segment_format.specs.Sums.{crcSum};
+ghost use Rattle.depot_wal_feed.specs.Numbers.{pageCode, pageOut, readCode, readOut, feedPage, feedRead, freshNumbers};
+use crate::numbers::is_known;
+use crate::numbers::state_of;
+use crate::numbers::store;
+use crate::numbers::store_place;
+use feed_format::FeedAnswer;
+use feed_format::PageAnswer;
+
+// A fresh state.
+#[no_mangle]
+pub extern "C" fn depot_wal_feed_start(state: &mut [u64; 16])
+    ensures { λ _. ⌜ now (state .exit) ≡ freshNumbers ⌝ }
+{
+    *state = [0, 0, 0, 1, 0, 0, 0, 0, 0, 0, 0, 0, 0, 0, 0, 0];
+}
+
+// A feed's answer as numbers.
+fn page_result(answer: PageAnswer, out: &mut [u64; 1]) -> u32
+    ensures { λ r. ⌜ (r ≡ pageCode answer) × (now (out .exit) ≡ pageOut answer) ⌝ }
+{
+    match answer {
+        PageAnswer::Taken => {
+            *out = [0];
+            0
+        }
+        PageAnswer::Refused(why) => {
+            let at = wal_types::place(why);
+            *out = [at.0 as u64];
+            wal_types::number(why)
+        }
+    }
+}
+
+// A read's answer as numbers.
+fn read_result(answer: FeedAnswer, out: &mut [u64; 3]) -> u32
+    ensures { λ r. ⌜ (r ≡ readCode answer) × (now (out .exit) ≡ readOut answer) ⌝ }
+{
+    match answer {
+        FeedAnswer::Record {
+            start,
+            length,
+            next,
+        } => {
+            *out = [start.0 as u64, length as u64, next.0 as u64];
+            0
+        }
+        FeedAnswer::More => {
+            *out = [0, 0, 0];
+            201
+        }
+        FeedAnswer::End => {
+            *out = [0, 0, 0];
+            200
+        }
+        FeedAnswer::Refused(why) => {
+            let at = wal_types::place(why);
+            *out = [at.0 as u64, 0, 0];
+            wal_types::number(why)
+        }
+    }
+}
+
+// Feeds the next page (FORMAT 17.3).
+#[no_mangle]
+pub extern "C" fn depot_wal_feed_page(state: &mut [u64; 16], page: &[u8], out: &mut [u64; 1]) -> u32
+    ensures { λ r. ⌜
+        (r ≡ feedPage (now (state .entry)) (now (page .entry)) .code)
+        × (now (out .exit) ≡ feedPage (now (state .entry)) (now (page .entry)) .out)
+        × (now (state .exit) ≡ feedPage (now (state .entry)) (now (page .entry)) .state) ⌝ }
+{
+    if is_known(state) {
+        let given = state_of(state);
+        let fed = segment_feed::feed_page(given, page);
+        let next = fed.state;
+        let answer = fed.answer;
+        let code = page_result(answer, out);
+        store(next, state);
+        return code;
+    }
+    *out = [0];
+    2
+}
+
+// Reads the next record of the page at hand (FORMAT 17.4).
+#[no_mangle]
+pub extern "C" fn depot_wal_feed_read(
+    state: &mut [u64; 16],
+    page: &[u8],
+    buffer: &mut [u8],
+    out: &mut [u64; 3],
+) -> u32
+    ensures { λ r. ⌜
+        (r ≡ feedRead crcSum (now (state .entry)) (now (page .entry)) (now (buffer .entry)) .code)
+        × (now (out .exit) ≡ feedRead crcSum (now (state .entry)) (now (page .entry)) (now (buffer .entry)) .out)
+        × (now (state .exit) ≡ feedRead crcSum (now (state .entry)) (now (page .entry)) (now (buffer .entry)) .state)
+        × (now (buffer .exit) ≡ feedRead crcSum (now (state .entry)) (now (page .entry)) (now (buffer .entry)) .buffer) ⌝ }
+{
+    if is_known(state) {
+        let given = state_of(state);
+        let read = segment_feed::read(given, page, buffer);
+        let next = read.state;
+        let answer = read.answer;
+        // The answer first: the compiler then knows it on each way and makes no table of jumps.
+        let code = read_result(answer, out);
+        store_place(next, state);
+        return code;
+    }
+    *out = [0, 0, 0];
+    2
+}

@@ -1,0 +1,116 @@
+// A feed's state as the numbers that C keeps: base, size, place in the page, marks, start, held,
+// and the place of a refusal that stands. The others are spare.
+ghost use mathlib.Core.Path.{_≡_};
+ghost use Prim.Native.Nat.{_≤_};
+ghost use Rattle.depot_wal_feed.specs.Numbers.{standingOf, bit, marks, stored, storedPlace, stateOf, known, standingNumber, standingPlace};
+use feed_format::FeedState;
+use feed_format::Standing;
+use wal_types::Offset;
+use wal_types::Refusal;
+
+// The refusal that a number and a place say stands.
+fn standing_of(number: u64, place: u64) -> Standing
+    ensures { λ r. ⌜ r ≡ standingOf number place ⌝ }
+{
+    let at = Offset(place as usize);
+    match number {
+        3 => Standing::Stands(Refusal::Reserved(at)),
+        4 => Standing::Stands(Refusal::Compressed(at)),
+        5 => Standing::Stands(Refusal::BadType(at)),
+        6 => Standing::Stands(Refusal::NotZero(at)),
+        7 => Standing::Stands(Refusal::OutOfOrder(at)),
+        8 => Standing::Stands(Refusal::PastPage(at)),
+        9 => Standing::Stands(Refusal::TooLong(at)),
+        10 => Standing::Stands(Refusal::BadSum(at)),
+        _ => Standing::Clear,
+    }
+}
+
+// Whether the numbers are a state.
+pub(crate) fn is_known(state: &[u64; 16]) -> bool
+    ensures { λ r. ⌜ r ≡ known (now (state .entry)) ⌝ }
+{
+    let marks = state[3];
+    if marks < 8 {
+        return state[6] == 0;
+    }
+    if marks < 24 {
+        return false;
+    }
+    marks < 88
+}
+
+// The state that the numbers are.
+pub(crate) fn state_of(state: &[u64; 16]) -> FeedState
+    ensures { λ r. ⌜ r ≡ stateOf (now (state .entry)) ⌝ }
+{
+    let marks = state[3];
+    let standing = standing_of(marks / 8, state[6]);
+    FeedState {
+        base: state[0] as usize,
+        size: state[1] as usize,
+        at: state[2] as usize,
+        asked: marks % 2 == 1,
+        ended: marks / 2 % 2 == 1,
+        opened: marks / 4 % 2 == 1,
+        start: Offset(state[4] as usize),
+        held: state[5] as usize,
+        standing,
+    }
+}
+
+fn bit_of(b: bool) -> u64
+    ensures { λ r. ⌜ (r ≡ bit b) × (r ≤ 1) ⌝ }
+{
+    if b { 1 } else { 0 }
+}
+
+fn standing_number(standing: Standing) -> u64
+    ensures { λ r. ⌜ (r ≡ standingNumber standing) × (r ≤ 4294967295) ⌝ }
+{
+    match standing {
+        Standing::Clear => 0,
+        Standing::Stands(why) => wal_types::number(why) as u64,
+    }
+}
+
+fn standing_place(standing: Standing) -> u64
+    ensures { λ r. ⌜ r ≡ standingPlace standing ⌝ }
+{
+    match standing {
+        Standing::Clear => 0,
+        Standing::Stands(why) => {
+            let at = wal_types::place(why);
+            at.0 as u64
+        }
+    }
+}
+
+// Three bits and the number of the refusal that stands, as one number.
+fn marks_of(asked: bool, ended: bool, opened: bool, standing: Standing) -> u64
+    ensures { λ r. ⌜ r ≡ marks asked ended opened (standingNumber standing) ⌝ }
+{
+    let low = bit_of(asked) + 2 * bit_of(ended);
+    low + 4 * bit_of(opened) + 8 * standing_number(standing)
+}
+
+// Stores what a read changes of a state; the page at hand and the spare numbers stay.
+pub(crate) fn store_place(next: FeedState, state: &mut [u64; 16])
+    ensures { λ _. ⌜ now (state .exit) ≡ storedPlace next (now (state .entry)) ⌝ }
+{
+    let standing = next.standing;
+    state[2] = next.at as u64;
+    state[3] = marks_of(next.asked, next.ended, next.opened, standing);
+    state[4] = next.start.0 as u64;
+    state[5] = next.held as u64;
+    state[6] = standing_place(standing);
+}
+
+// Stores a state in the numbers; the spare ones stay.
+pub(crate) fn store(next: FeedState, state: &mut [u64; 16])
+    ensures { λ _. ⌜ now (state .exit) ≡ stored next (now (state .entry)) ⌝ }
+{
+    state[0] = next.base as u64;
+    state[1] = next.size as u64;
+    store_place(next, state);
+}
