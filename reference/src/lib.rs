@@ -1,13 +1,14 @@
 //! The second program: the format (docs/FORMAT.md) in plain Rust, written from the customer's rules
 //! alone and never from the product's code, so that the product can be compared with it. Clear
-//! before fast; the checksum and the bodies are also made fast, since the product's speed is
-//! measured against them.
+//! before fast; the checksum, the bodies and the feed are also made fast, since the product's speed
+//! is measured against them.
 
 #![forbid(unsafe_code)]
 
 pub mod body;
 pub mod crc32c;
 pub mod damage;
+pub mod feed;
 pub mod listing;
 pub mod refusal;
 pub mod rows;

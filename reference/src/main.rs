@@ -2,14 +2,15 @@
 //! `reference vectors`: the lines that the product's program `test_vectors` has to print.
 //! `reference reader`: the lines that the product's program `test_cursor` has to print.
 //! `reference samples`: the lines that the product's program `test_samples` has to print.
-//! `reference list`: the listing of a segment on standard input (FORMAT 15).
+//! `reference list`: the listing of a segment on standard input, page by page (FORMAT 15 and
+//! document 02 [2]).
 //! `reference damage FILE`: the cases of a table of named damage, with this program's answers.
 //! `reference rows FILE`: every record and every entry of a segment.
 
 #![forbid(unsafe_code)]
 
 use reference::{damage, listing, rows, selftest, tour, tour_samples, vectors};
-use std::io::{self, Read, Write};
+use std::io::{self, BufWriter, Write};
 use std::process::ExitCode;
 
 const USAGE: &str =
@@ -19,17 +20,17 @@ fn main() -> ExitCode {
     let words: Vec<String> = std::env::args().skip(1).collect();
     let words: Vec<&str> = words.iter().map(String::as_str).collect();
     let done = match words[..] {
-        ["selftest"] => selftest::run().map(|()| "selftest: all equal\n".to_string()),
-        ["vectors"] => Ok(vectors::text()),
-        ["reader"] => Ok(tour::text()),
-        ["samples"] => Ok(tour_samples::text()),
-        ["list"] => Ok(listing::text(&input())),
-        ["damage", file] => file_text(file).and_then(|table| damage::text(&table)),
-        ["rows", file] => file_bytes(file).and_then(|segment| rows::text(&segment)),
+        ["selftest"] => selftest::run().and_then(|()| print("selftest: all equal\n")),
+        ["vectors"] => print(&vectors::text()),
+        ["reader"] => print(&tour::text()),
+        ["samples"] => print(&tour_samples::text()),
+        ["list"] => list(),
+        ["damage", file] => file_text(file).and_then(|table| print(&damage::text(&table)?)),
+        ["rows", file] => file_bytes(file).and_then(|segment| print(&rows::text(&segment)?)),
         _ => Err(USAGE.to_string()),
     };
     match done {
-        Ok(text) => print(&text),
+        Ok(()) => ExitCode::SUCCESS,
         Err(message) => {
             eprintln!("reference: {message}");
             ExitCode::FAILURE
@@ -37,12 +38,11 @@ fn main() -> ExitCode {
     }
 }
 
-/// Standard input as far as the listing looks; on a read error, what was read.
-fn input() -> Vec<u8> {
-    let mut bytes = Vec::new();
-    let enough = listing::INPUT_MAX as u64 + 1;
-    let _ = io::stdin().take(enough).read_to_end(&mut bytes);
-    bytes
+/// Prints each line as soon as it is known, a buffer at a time.
+fn list() -> Result<(), String> {
+    let mut output = BufWriter::new(io::stdout().lock());
+    let listed = listing::list(io::stdin().lock(), &mut output);
+    written(listed.and_then(|()| output.flush()))
 }
 
 fn file_text(file: &str) -> Result<String, String> {
@@ -53,9 +53,10 @@ fn file_bytes(file: &str) -> Result<Vec<u8>, String> {
     std::fs::read(file).map_err(|error| format!("{file}: {error}"))
 }
 
-fn print(text: &str) -> ExitCode {
-    match io::stdout().write_all(text.as_bytes()) {
-        Ok(()) => ExitCode::SUCCESS,
-        Err(_) => ExitCode::FAILURE,
-    }
+fn print(text: &str) -> Result<(), String> {
+    written(io::stdout().write_all(text.as_bytes()))
+}
+
+fn written(done: io::Result<()>) -> Result<(), String> {
+    done.map_err(|error| format!("standard output: {error}"))
 }
