@@ -4,6 +4,7 @@
 
 pub mod bare;
 mod bodies;
+pub mod feed;
 
 pub use bodies::{add, body_check, body_start, entry_at, string_at};
 use std::sync::atomic::{AtomicBool, Ordering};
@@ -18,7 +19,7 @@ pub const END: u32 = 200;
 
 const PATTERN: u64 = 0xA5A5_5A5A_C3C3_3C3C;
 
-/// What a call returned and left in `out`; `beside` says whether it wrote beside `out`.
+/// What a call returned and left in `out`; `beside` says whether it wrote beside `out` or a state.
 #[derive(Clone, Copy, Debug, PartialEq, Eq)]
 pub struct Answer<const N: usize> {
     pub number: u32,
@@ -44,18 +45,26 @@ struct Guarded<const N: usize> {
     after: [u64; 2],
 }
 
+impl<const N: usize> Guarded<N> {
+    fn new(out: [u64; N]) -> Guarded<N> {
+        let (before, after) = ([PATTERN; 2], [PATTERN; 2]);
+        Guarded { before, out, after }
+    }
+
+    /// True if a guard word was written.
+    fn beside(&self) -> bool {
+        self.before != [PATTERN; 2] || self.after != [PATTERN; 2]
+    }
+}
+
 /// Makes the call with a guarded `out`.
 fn answer<const N: usize>(call: impl FnOnce(*mut u64) -> u32) -> Answer<N> {
-    let mut lent = Guarded {
-        before: [PATTERN; 2],
-        out: [PATTERN; N],
-        after: [PATTERN; 2],
-    };
+    let mut lent = Guarded::new([PATTERN; N]);
     let number = call(lent.out.as_mut_ptr());
     Answer {
         number,
         out: lent.out,
-        beside: lent.before != [PATTERN; 2] || lent.after != [PATTERN; 2],
+        beside: lent.beside(),
     }
 }
 

@@ -27,11 +27,17 @@ pub struct Fragment {
 
 /// A list of writes on a slice of `pages`, cut after the last one's filler.
 pub fn written(rng: &mut Rng, pages: usize) -> Sample {
+    let writes = rng.below(300);
+    written_by(rng, pages, writes)
+}
+
+/// The same with so many writes, some of which may not fit.
+pub fn written_by(rng: &mut Rng, pages: usize, writes: usize) -> Sample {
     let mut bytes = vec![0; pages * PAGE];
     let data = rng.bytes(RECORD_MAX);
     let mut fragments = Vec::new();
     let mut place = 0;
-    for _ in 0..rng.below(300) {
+    for _ in 0..writes {
         let length = record_length(rng, segment::left_in_page(place));
         if let Ok(next) = segment::write(&mut bytes, place, &data[..length]) {
             add_fragments(&mut fragments, &bytes, place);
@@ -205,5 +211,116 @@ pub fn noise(rng: &mut Rng, bytes: &mut Vec<u8>) {
             _ => rng.byte() % 6,
         };
         bytes.push(byte);
+    }
+}
+
+/// A written or a foreign segment.
+pub fn any_sample(rng: &mut Rng) -> Sample {
+    let pages = 1 + rng.below(3);
+    match rng.below(3) {
+        0 | 1 => written(rng, pages),
+        _ => foreign(rng, Splitting::Short),
+    }
+}
+
+/// A foreign segment with a record before its start, so that it can be read from 0.
+pub fn foreign_from_0(rng: &mut Rng, splitting: Splitting) -> Sample {
+    let mut sample = foreign(rng, splitting);
+    if sample.start >= HEADER {
+        make_fragment(&mut sample.bytes[..sample.start], FULL);
+    }
+    sample
+}
+
+/// Makes the bytes, at least 7 and at most a page, one good fragment.
+pub fn make_fragment(bytes: &mut [u8], kind: u8) {
+    let (header, data) = bytes.split_at_mut(HEADER);
+    header[0] = kind;
+    header[1..3].copy_from_slice(&(data.len() as u16).to_be_bytes());
+    header[3..].copy_from_slice(&crc32c::checksum(data).to_be_bytes());
+}
+
+// ---- Where to cut a sample, and what to change in it ----
+
+/// Some fragments of a sample; the last ones always, since they are near the end.
+pub fn some_fragments(rng: &mut Rng, sample: &Sample) -> Vec<Fragment> {
+    let count = sample.fragments.len();
+    let few = |index: usize| index + 4 > count;
+    let near_edge = |end: usize| segment::left_in_page(end) < 16;
+    let mut chosen = Vec::new();
+    for (index, fragment) in sample.fragments.iter().enumerate() {
+        if few(index) || near_edge(fragment.end) || rng.once_in(12) {
+            chosen.push(*fragment);
+        }
+    }
+    chosen
+}
+
+/// Cuts in and after the header of a fragment, and before and after its end.
+pub fn cuts_near(fragment: Fragment, length: usize) -> impl Iterator<Item = usize> {
+    let header = fragment.start..fragment.start + HEADER + 3;
+    let end = fragment.end.saturating_sub(3)..fragment.end + 10;
+    header.chain(end).filter(move |&cut| cut <= length)
+}
+
+/// A cut in a fragment or shortly after it.
+pub fn any_cut(rng: &mut Rng, sample: &Sample) -> usize {
+    match sample.fragments.len() {
+        0 => sample.start,
+        count => {
+            let fragment = sample.fragments[rng.below(count)];
+            fragment.start + rng.below(fragment.end - fragment.start + 8)
+        }
+    }
+}
+
+/// Where the zeros after a cut end.
+pub fn tail_end(rng: &mut Rng, cut: usize) -> usize {
+    let page_end = cut + segment::left_in_page(cut);
+    match rng.below(4) {
+        0 => cut + rng.below(40),
+        1 => page_end,
+        2 => page_end + PAGE * rng.below(2) + rng.below(10),
+        _ => page_end - rng.below(10).min(page_end - cut),
+    }
+}
+
+/// Changes of one byte each, in a fragment and in the filler after it: the place and the new byte.
+pub fn damages(rng: &mut Rng, sample: &Sample, fragment: Fragment) -> Vec<(usize, u8)> {
+    let Fragment { start, end, .. } = fragment;
+    let mut changes = type_damages(rng, start);
+    let filler = end..end + 6;
+    for place in (start + 1..start + HEADER).chain(filler) {
+        let Some(&old) = sample.bytes.get(place) else {
+            continue;
+        };
+        let byte = match rng.below(3) {
+            0 => rng.byte(),
+            1 => old ^ 1 << rng.below(8),
+            _ => old.wrapping_add(1),
+        };
+        changes.push((place, byte));
+    }
+    let data = end - start - HEADER;
+    for _ in 0..data.min(4) {
+        changes.push((start + HEADER + rng.below(data), rng.byte()));
+    }
+    changes
+}
+
+/// Every low type byte, and some of the others.
+fn type_damages(rng: &mut Rng, place: usize) -> Vec<(usize, u8)> {
+    let mut changes: Vec<(usize, u8)> = (0..8).map(|byte| (place, byte)).collect();
+    changes.extend([(); 4].map(|()| (place, rng.byte())));
+    changes
+}
+
+/// Lengths of record buffers, of which those from 65,536 on are good.
+pub fn any_buffer(rng: &mut Rng) -> usize {
+    match rng.below(4) {
+        0 => rng.below(RECORD_MAX),
+        1 => rng.pick(&[0, 1, RECORD_MAX - 1]),
+        2 => RECORD_MAX,
+        _ => RECORD_MAX + rng.below(48),
     }
 }

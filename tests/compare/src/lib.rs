@@ -2,6 +2,7 @@
 
 pub mod bodies;
 pub mod checksums;
+pub mod feed;
 pub mod ffi;
 pub mod fixtures;
 pub mod generate;

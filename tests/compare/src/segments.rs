@@ -3,7 +3,9 @@
 
 use crate::checksums::{fill_with_noise, own_table};
 use crate::ffi::{self, Answer, Table, END};
-use crate::generate::{self, Fragment, Sample, Splitting};
+use crate::generate::{
+    self, any_buffer, any_cut, any_sample, some_fragments, tail_end, Fragment, Sample, Splitting,
+};
 use crate::rng::Rng;
 use crate::twin::Twin;
 use crate::{Group, Outcome};
@@ -368,29 +370,6 @@ fn read_anywhere(
     Ok(())
 }
 
-/// A written or a foreign segment.
-fn any_sample(rng: &mut Rng) -> Sample {
-    let pages = 1 + rng.below(3);
-    match rng.below(3) {
-        0 | 1 => generate::written(rng, pages),
-        _ => generate::foreign(rng, Splitting::Short),
-    }
-}
-
-/// Some fragments of a sample; the last ones always, since they are near the end.
-fn some_fragments(rng: &mut Rng, sample: &Sample) -> Vec<Fragment> {
-    let count = sample.fragments.len();
-    let few = |index: usize| index + 4 > count;
-    let near_edge = |end: usize| segment::left_in_page(end) < 16;
-    let mut chosen = Vec::new();
-    for (index, fragment) in sample.fragments.iter().enumerate() {
-        if few(index) || near_edge(fragment.end) || rng.once_in(12) {
-            chosen.push(*fragment);
-        }
-    }
-    chosen
-}
-
 /// Segments cut at every place near the edges of fragments and pages.
 fn compare_cuts(rng: &mut Rng) -> Outcome {
     let mut bench = Bench::new(rng);
@@ -414,9 +393,7 @@ fn read_cuts(
     length: usize,
     fragment: Fragment,
 ) -> Result<(), String> {
-    let header = fragment.start..fragment.start + HEADER + 3;
-    let end = fragment.end.saturating_sub(3)..fragment.end + 10;
-    for cut in header.chain(end).filter(|&cut| cut <= length) {
+    for cut in generate::cuts_near(fragment, length) {
         bench.read(cut, fragment.record.min(cut))?;
         if rng.once_in(20) {
             bench.read(cut, fragment.end.min(cut))?;
@@ -432,65 +409,12 @@ fn compare_damage(rng: &mut Rng) -> Outcome {
         let sample = any_sample(rng);
         bench.put(rng, &sample);
         for fragment in some_fragments(rng, &sample) {
-            damage_types(rng, &mut bench, &sample, fragment)?;
-            damage_header_and_filler(rng, &mut bench, &sample, fragment)?;
-            damage_data(rng, &mut bench, &sample, fragment)?;
+            for change in generate::damages(rng, &sample, fragment) {
+                damage(rng, &mut bench, &sample, fragment, change)?;
+            }
         }
     }
     Ok(bench.cases)
-}
-
-/// Every low type byte, and some of the others.
-fn damage_types(
-    rng: &mut Rng,
-    bench: &mut Bench,
-    sample: &Sample,
-    fragment: Fragment,
-) -> Result<(), String> {
-    for type_byte in 0..8 {
-        damage(rng, bench, sample, fragment, fragment.start, type_byte)?;
-    }
-    for _ in 0..4 {
-        let type_byte = rng.byte();
-        damage(rng, bench, sample, fragment, fragment.start, type_byte)?;
-    }
-    Ok(())
-}
-
-/// Each other byte of the header, each byte of filler.
-fn damage_header_and_filler(
-    rng: &mut Rng,
-    bench: &mut Bench,
-    sample: &Sample,
-    fragment: Fragment,
-) -> Result<(), String> {
-    let header = fragment.start + 1..fragment.start + HEADER;
-    let filler = fragment.end..fragment.end + 6;
-    for place in header.chain(filler) {
-        let byte = match rng.below(3) {
-            0 => rng.byte(),
-            1 => bench.segment.bytes(place..place + 1)[0] ^ 1 << rng.below(8),
-            _ => bench.segment.bytes(place..place + 1)[0].wrapping_add(1),
-        };
-        damage(rng, bench, sample, fragment, place, byte)?;
-    }
-    Ok(())
-}
-
-/// Some bytes of the data.
-fn damage_data(
-    rng: &mut Rng,
-    bench: &mut Bench,
-    sample: &Sample,
-    fragment: Fragment,
-) -> Result<(), String> {
-    let data = fragment.end - fragment.start - HEADER;
-    for _ in 0..data.min(4) {
-        let place = fragment.start + HEADER + rng.below(data);
-        let byte = rng.byte();
-        damage(rng, bench, sample, fragment, place, byte)?;
-    }
-    Ok(())
 }
 
 /// Reads with one byte changed, whole and sometimes cut.
@@ -499,13 +423,9 @@ fn damage(
     bench: &mut Bench,
     sample: &Sample,
     fragment: Fragment,
-    place: usize,
-    byte: u8,
+    (place, byte): (usize, u8),
 ) -> Result<(), String> {
     let length = sample.bytes.len();
-    if place >= length {
-        return Ok(());
-    }
     let old = sample.bytes[place];
     bench.segment.put_at(place, &[byte]);
     bench.read(length, fragment.record)?;
@@ -543,17 +463,6 @@ fn compare_tails(rng: &mut Rng) -> Outcome {
     Ok(bench.cases)
 }
 
-/// In a fragment or shortly after it.
-fn any_cut(rng: &mut Rng, sample: &Sample) -> usize {
-    match sample.fragments.len() {
-        0 => sample.start,
-        count => {
-            let fragment = sample.fragments[rng.below(count)];
-            fragment.start + rng.below(fragment.end - fragment.start + 8)
-        }
-    }
-}
-
 /// Reads from the start on, and at some places after it.
 fn read_tail(rng: &mut Rng, bench: &mut Bench, length: usize, start: usize) -> Result<(), String> {
     bench.read_on(length, start)?;
@@ -561,17 +470,6 @@ fn read_tail(rng: &mut Rng, bench: &mut Bench, length: usize, start: usize) -> R
         bench.read(length, start + rng.below(length - start + 1))?;
     }
     Ok(())
-}
-
-/// Where the zeros end.
-fn tail_end(rng: &mut Rng, cut: usize) -> usize {
-    let page_end = cut + segment::left_in_page(cut);
-    match rng.below(4) {
-        0 => cut + rng.below(40),
-        1 => page_end,
-        2 => page_end + PAGE * rng.below(2) + rng.below(10),
-        _ => page_end - rng.below(10).min(page_end - cut),
-    }
 }
 
 fn compare_foreign(rng: &mut Rng) -> Outcome {
@@ -657,16 +555,6 @@ fn read_badly(rng: &mut Rng, bench: &mut Bench, sample: &Sample) -> Result<(), S
         bench.read_into(cut, place, buffer)?;
     }
     Ok(())
-}
-
-/// Lengths of record buffers, of which those from 65,536 on are good.
-fn any_buffer(rng: &mut Rng) -> usize {
-    match rng.below(4) {
-        0 => rng.below(RECORD_MAX),
-        1 => rng.pick(&[0, 1, RECORD_MAX - 1]),
-        2 => RECORD_MAX,
-        _ => RECORD_MAX + rng.below(48),
-    }
 }
 
 const LAST_PAGE: usize = SEGMENT_MAX - PAGE;

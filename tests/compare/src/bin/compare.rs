@@ -2,7 +2,7 @@
 //! on the real segments of a folder; nonzero on the first difference, with the seed and the case.
 
 use compare::rng::Rng;
-use compare::{bodies, checksums, fixtures, rows, segments, Group, Outcome};
+use compare::{bodies, checksums, feed, fixtures, rows, segments, Group, Outcome};
 use std::io::Write;
 use std::path::Path;
 use std::process::ExitCode;
@@ -50,7 +50,13 @@ fn run(name: &str, group: impl FnOnce() -> Outcome) -> Outcome {
 }
 
 fn groups() -> Vec<Group> {
-    [checksums::groups(), segments::groups(), bodies::groups()].concat()
+    [
+        checksums::groups(),
+        segments::groups(),
+        feed::groups(),
+        bodies::groups(),
+    ]
+    .concat()
 }
 
 /// Each real segment through the calls.
@@ -83,6 +89,7 @@ fn compare_rows(folder: &Path) -> Outcome {
 fn compare_file(rng: &mut Rng, bytes: &[u8]) -> Outcome {
     let sums = checksums::compare_data(rng, bytes)?;
     let reads = segments::compare_file(rng, bytes)?;
+    let feeds = feed::compare_file(rng, bytes)?;
     let bodies = bodies::compare_file(rng, bytes)?;
-    Ok(sums + reads + bodies)
+    Ok(sums + reads + feeds + bodies)
 }

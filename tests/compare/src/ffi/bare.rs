@@ -4,6 +4,7 @@
 use super::bodies::{
     depot_wal_add_sample, depot_wal_body_check, depot_wal_body_start, depot_wal_entry_at,
 };
+use super::feed::{depot_wal_feed_page, depot_wal_feed_read, depot_wal_feed_start, State as Feed};
 use super::*;
 use reference::body::{Sample, State};
 
@@ -61,6 +62,27 @@ pub fn read_with_table(
     let (room, room_len) = (buffer.as_mut_ptr(), buffer.len());
     let (table, out) = (table.as_ptr(), out.as_mut_ptr());
     unsafe { depot_wal_read_with_table(table, bytes, length, place, room, room_len, out) }
+}
+
+// ---- The page feed ----
+
+#[inline]
+pub fn feed_start(state: &mut Feed) {
+    unsafe { depot_wal_feed_start(state.as_mut_ptr()) }
+}
+
+#[inline]
+pub fn feed_page(state: &mut Feed, page: &[u8], out: &mut [u64; 1]) -> u32 {
+    let (state, out) = (state.as_mut_ptr(), out.as_mut_ptr());
+    unsafe { depot_wal_feed_page(state, page.as_ptr(), page.len(), out) }
+}
+
+#[inline]
+pub fn feed_read(state: &mut Feed, page: &[u8], buffer: &mut [u8], out: &mut [u64; 3]) -> u32 {
+    let (length, bytes) = (page.len(), page.as_ptr());
+    let (room, room_len) = (buffer.as_mut_ptr(), buffer.len());
+    let (state, out) = (state.as_mut_ptr(), out.as_mut_ptr());
+    unsafe { depot_wal_feed_read(state, bytes, length, room, room_len, out) }
 }
 
 // ---- Bodies ----

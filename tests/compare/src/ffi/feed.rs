@@ -1,0 +1,60 @@
+//! The page feed's calls. The state too is between guard words.
+
+use super::*;
+
+/// Numbers in a state.
+pub const STATE_LEN: usize = 16;
+
+pub type State = [u64; STATE_LEN];
+
+/// What a read returns that asks for the next page.
+pub const MORE: u32 = 201;
+
+extern "C" {
+    pub(super) fn depot_wal_feed_start(state: *mut u64);
+    pub(super) fn depot_wal_feed_page(
+        state: *mut u64,
+        page: *const u8,
+        page_len: usize,
+        out: *mut u64,
+    ) -> u32;
+    pub(super) fn depot_wal_feed_read(
+        state: *mut u64,
+        page: *const u8,
+        page_len: usize,
+        buffer: *mut u8,
+        buffer_len: usize,
+        out: *mut u64,
+    ) -> u32;
+}
+
+/// A fresh state, made in place of a pattern; `None` if something was written beside it.
+pub fn start() -> Option<State> {
+    let mut lent = Guarded::new([PATTERN; STATE_LEN]);
+    unsafe { depot_wal_feed_start(lent.out.as_mut_ptr()) };
+    (!lent.beside()).then_some(lent.out)
+}
+
+pub fn feed_page(state: &mut State, page: &[u8]) -> Answer<1> {
+    let (length, page) = (page.len(), pointer(page));
+    lend(state, |state| {
+        answer(|out| unsafe { depot_wal_feed_page(state, page, length, out) })
+    })
+}
+
+pub fn read(state: &mut State, page: &[u8], buffer: &mut [u8]) -> Answer<3> {
+    let (length, buffer_len) = (page.len(), buffer.len());
+    let (page, buffer) = (pointer(page), pointer_mut(buffer));
+    lend(state, |state| {
+        answer(|out| unsafe { depot_wal_feed_read(state, page, length, buffer, buffer_len, out) })
+    })
+}
+
+/// Makes the call with a guarded copy of the state, and takes over what it left there.
+fn lend<const N: usize>(state: &mut State, call: impl FnOnce(*mut u64) -> Answer<N>) -> Answer<N> {
+    let mut lent = Guarded::new(*state);
+    let mut answer = call(lent.out.as_mut_ptr());
+    answer.beside |= lent.beside();
+    *state = lent.out;
+    answer
+}
