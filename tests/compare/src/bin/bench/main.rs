@@ -1,13 +1,20 @@
-//! `bench`: in one run on one machine, the archive's calls beside the second program with its
-//! software checksum, and beside the SSE4.2 instruction.
+//! `bench [LIST [SECOND]]`: in one run on one machine, the archive's calls beside the second program
+//! with its software checksum, and beside the SSE4.2 instruction; and the listing program LIST, by
+//! default target/bin/list, beside `SECOND list`, by default this program itself:
+//! `bench list`: the second program's listing of standard input.
 
 mod bodies;
 mod checksum;
+mod feed;
 mod hardware;
+mod list;
 mod records;
 mod timing;
 
+use list::Programs;
+use reference::segment::SEGMENT_MAX;
 use std::fs;
+use std::path::PathBuf;
 
 const METHOD: &str = "\
 Neither program is built for a special processor; ours is called through the archive. The
@@ -15,17 +22,38 @@ contenders take turns in every round. A time is the median of the rounds. A rati
 the median of the rounds' ratios; where it is another's time / ours, ours is faster above 1.";
 
 fn main() {
+    let words: Vec<String> = std::env::args().skip(1).collect();
+    if words == ["list"] {
+        return list::list_as_second();
+    }
     println!("machine: {}, caches {}", processor(), caches());
     println!("built for {}\n{METHOD}", build());
     if !hardware::present() {
         println!("No SSE4.2 here: where it is named, the second program's own checksum stands in.");
     }
-    let parts = [checksum::bench(), records::bench(), bodies::bench()];
+    let mut segment = vec![0; SEGMENT_MAX];
+    let parts = [
+        checksum::bench(),
+        records::bench(&mut segment),
+        feed::bench(&mut segment),
+        list::bench(&programs(&words), &segment),
+        bodies::bench(),
+    ];
     println!(
         "bench: time of the second program / ours plain, / ours with table, and of sse4.2 / ours \
          with table: {}",
         parts.join(", ")
     );
+}
+
+/// The programs that list.
+fn programs(words: &[String]) -> Programs {
+    let named = |index: usize| words.get(index).map(PathBuf::from);
+    let itself = || std::env::current_exe().expect("a program knows its file");
+    Programs {
+        ours: named(0).unwrap_or("target/bin/list".into()),
+        second: named(1).unwrap_or_else(itself),
+    }
 }
 
 fn build() -> &'static str {

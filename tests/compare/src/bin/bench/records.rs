@@ -22,13 +22,12 @@ records it leads by that, as above, and by the copy: the second program's is mem
 library picks for the machine; the library's own is portable and goes in 16-byte vector steps.";
 
 /// Prints the rows of both jobs and hands back the summary.
-pub fn bench() -> String {
+pub fn bench(segment: &mut [u8]) -> String {
     let (size, pages) = (SEGMENT_MAX >> 20, SEGMENT_MAX / PAGE);
     println!("\nrecords: a whole segment of {size} MiB, {pages} pages, {ROUNDS} rounds\n{SETTING}");
-    let mut segment = vec![0; SEGMENT_MAX];
     let jobs = [
-        bench_job("write", bench_write, &mut segment),
-        bench_job("read", bench_read, &mut segment),
+        bench_job("write", bench_write, segment),
+        bench_job("read", bench_read, segment),
     ];
     println!("{WHY}");
     jobs.join(", ")
@@ -67,18 +66,18 @@ fn print_rows(length: usize, rounds: &Rounds<4>) {
 }
 
 /// A segment full of records of one length, and the buffer that they are read into.
-struct Full<'a> {
-    segment: &'a mut [u8],
+pub struct Full<'a> {
+    pub segment: &'a mut [u8],
     record: Vec<u8>,
-    count: usize,
+    pub count: usize,
     /// The place after the last record.
     end: usize,
-    buffer: Vec<u8>,
+    pub buffer: Vec<u8>,
 }
 
 impl Full<'_> {
     /// Filled by the second program.
-    fn new(segment: &mut [u8], length: usize) -> Full<'_> {
+    pub fn new(segment: &mut [u8], length: usize) -> Full<'_> {
         let record: Vec<u8> = (0..length).map(|i| (i * 31 + 7) as u8).collect();
         let mut count = 0;
         let mut end = 0;
