@@ -1,6 +1,6 @@
 # make demo      the main job, shown: switches written, the power cut in the middle of one, what comes back
 # make test      everything that has to hold: rt ci, then the comparisons (tools/gate); .ci/run calls it
-# make bench     our speed beside the second program's and the SSE4.2 instruction's, in one run (half a minute)
+# make bench     our speed beside the second program's and the SSE4.2 instruction's, in one run (about a minute)
 # make valgrind  the C test and the listing on hostile inputs under valgrind (slow, not part of the test)
 # make interop   stock Prometheus reads what the archive writes; installs Debian's prometheus package
 #                where it is missing (not part of the test)

@@ -139,8 +139,8 @@ pub(crate) fn zigzags(deltas: Deltas) -> Deltas
     }
 }
 
-// The bytes that a row takes after `used` bytes, by the zigzags of its deltas. The first one has the
-// first id and timestamp too.
+// The bytes that a row takes after `used` bytes, by the zigzags of its deltas. The first one has
+// the first id and timestamp too.
 pub(crate) fn row_size(used: usize, row: Deltas) -> usize
     ensures { λ r. ⌜ (r ≡ rowSize used (row .id) (row .time)) × (r ≤ 28) ⌝ }
 {

@@ -89,8 +89,8 @@ fn is_short_row(body: &[u8], at: usize) -> bool
     body[at + 1] < 128
 }
 
-// A row's time, by the zigzag of its delta. The rows of a record mostly have one time, and the delta
-// 0 needs no work.
+// A row's time, by the zigzag of its delta. The rows of a record mostly have one time, and the
+// delta 0 needs no work.
 fn row_time(first: Timestamp, zigzag: u64) -> Timestamp
     ensures { λ r. ⌜ r .0 ≡ fromBits (plus (toBits (first .0)) (toBits (unzigzag zigzag))) ⌝ }
 {

@@ -5,8 +5,8 @@ ghost use mathlib.Core.Path.{_≡_};
 ghost use Rattle.varint.specs.Varint.{zigzag, unzigzag};
 ghost use Rattle.wal_types.specs.Deltas.{toBits, fromBits};
 
-// 2x for x >= 0, and -2x - 1 for x < 0, where x is the signed number of the bits. Doubling drops the
-// sign bit; by this form the compiler needs no branch.
+// 2x for x >= 0, and -2x - 1 for x < 0, where x is the signed number of the bits. Doubling drops
+// the sign bit; by this form the compiler needs no branch.
 pub fn zigzag_of_delta(delta: u64) -> u64
     ensures { λ r. ⌜ r ≡ zigzag (fromBits delta) ⌝ }
 {

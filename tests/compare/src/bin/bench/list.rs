@@ -9,7 +9,11 @@ use std::io::{self, BufWriter, Write};
 use std::path::PathBuf;
 use std::process::Command;
 
-const ROUNDS: usize = 9;
+const ROUNDS: usize = 7;
+
+/// The contenders, by their places.
+const OURS: usize = 0;
+const SECOND: usize = 1;
 
 const SETTING: &str = "\
 A time is that of the whole process. Its input is in the system's memory, its output a new file.
@@ -27,20 +31,20 @@ pub fn bench(programs: &Programs, segment: &[u8]) -> String {
     let size = SEGMENT_MAX >> 20;
     println!("\nlist {size} MiB of {LENGTH}-byte records, {ROUNDS} rounds\n{SETTING}");
     let mut files = Files::new(segment);
-    let ours = |files: &mut Files| files.list(Command::new(&programs.ours), 0);
+    let ours = |files: &mut Files| files.list(Command::new(&programs.ours), OURS);
     let second = |files: &mut Files| {
         let mut command = Command::new(&programs.second);
         command.arg("list");
-        files.list(command, 1);
+        files.list(command, SECOND);
     };
     let rounds = time(ROUNDS, 1, &mut files, [&ours, &second]);
-    assert!(files.listed(0) == files.listed(1), "two listings");
-    for (by, this) in [("list", 0), ("second's list", 1)] {
-        let (time, ratio) = (rounds.median(this) / 1e6, rounds.ratio(1, this));
+    assert!(files.listed(OURS) == files.listed(SECOND), "two listings");
+    for (by, this) in [("list", OURS), ("second's list", SECOND)] {
+        let (time, ratio) = (rounds.median(this) / 1e6, rounds.ratio(SECOND, this));
         let speed = SEGMENT_MAX as f64 / 1e3 / time;
         println!("{by:>20} {time:>11.1} {speed:>9.1} {ratio:>9.2}");
     }
-    format!("second's list / list {:.2}", rounds.ratio(1, 0))
+    format!("second's list / list {:.2}", rounds.ratio(SECOND, OURS))
 }
 
 /// The input and a listing of each program, in a folder of their own.
@@ -67,10 +71,9 @@ impl Files {
     fn list(&self, mut command: Command, program: usize) {
         let input = File::open(self.input()).expect("the input is there");
         let output = File::create(self.output(program)).expect("a new output");
-        let name = command.get_program().to_owned();
         match command.stdin(input).stdout(output).status() {
             Ok(status) if status.success() => {}
-            other => panic!("{}: {other:?}", name.display()),
+            other => panic!("{command:?}: {other:?}"),
         }
     }
 
