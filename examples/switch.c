@@ -9,7 +9,7 @@
 #include <string.h>
 
 /* Three scooters with profiles 1 to 3 each. Each profile is a series of the log, and its id is made
- * of both numbers. */
+ * of both numbers. The log begins with these series; then each change is a record. */
 enum { SCOOTERS = 3, PROFILES = 3 };
 
 static uint64_t series_id(unsigned scooter, unsigned profile) { return 10 * scooter + profile; }
@@ -22,7 +22,7 @@ static uint8_t flash[DEPOT_WAL_PAGE];              /* the log of the box */
 static size_t log_end;                             /* where the next record goes */
 static uint8_t buffer[DEPOT_WAL_RECORD_MAX];       /* the record that was read */
 static uint8_t too_much[DEPOT_WAL_RECORD_MAX + 1]; /* a record that is too long */
-static uint64_t value_of[SCOOTERS + 1][PROFILES + 1]; /* the last value of each profile */
+static struct depot_wal_series table[DEPOT_WAL_SERIES_MAX]; /* what each profile had last */
 
 /* Writes a record. After an error nothing has changed and out.next is the old place, so there is no
  * case to forget: always go on with out.next. */
@@ -37,6 +37,42 @@ static void write_record(const uint8_t *record, size_t len, const char *what)
     log_end = out.next;
 }
 
+/* Writes the series, each with the labels scooter and profile. */
+static void write_series(void)
+{
+    static const uint64_t lengths[] = {7, 1, 7, 1};
+    const uint8_t type = DEPOT_WAL_SERIES;
+    struct depot_wal_built out;
+    uint8_t body[512];
+    char labels[32];
+    if (depot_wal_body_start(body, sizeof body, type, &out))
+        return; /* an error: every status but DEPOT_WAL_DONE is above 0 */
+    for (unsigned scooter = 1; scooter <= SCOOTERS; scooter++) {
+        for (unsigned profile = 1; profile <= PROFILES; profile++) {
+            int n = snprintf(labels, sizeof labels, "scooter%uprofile%u", scooter, profile);
+            if (depot_wal_add_series(body, sizeof body, type, out.used, series_id(scooter, profile),
+                                     (const uint8_t *)labels, (size_t)n, lengths, 4, &out))
+                return;
+        }
+    }
+    write_record(body, out.used, "the series: each profile of each scooter");
+}
+
+/* Writes that profile 1 of every scooter is on. */
+static void write_factory(void)
+{
+    const uint8_t type = DEPOT_WAL_SAMPLES;
+    struct depot_wal_built out;
+    uint8_t body[64];
+    if (depot_wal_body_start(body, sizeof body, type, &out))
+        return;
+    for (unsigned scooter = 1; scooter <= SCOOTERS; scooter++)
+        if (depot_wal_add_sample(body, sizeof body, type, out.used, series_id(scooter, 1), 0, ON,
+                                 &out))
+            return;
+    write_record(body, out.used, "from the factory: profile 1 on");
+}
+
 /* Writes one switch: the old profile to 0, the new one to 1, in one record so that never half of it
  * counts. */
 static void write_switch(unsigned scooter, unsigned from, unsigned to, int64_t time)
@@ -49,42 +85,21 @@ static void write_switch(unsigned scooter, unsigned from, unsigned to, int64_t t
     if (depot_wal_body_start(body, sizeof body, type, &out)
         || depot_wal_add_sample(body, sizeof body, type, out.used, from_id, time, OFF, &out)
         || depot_wal_add_sample(body, sizeof body, type, out.used, to_id, time, ON, &out))
-        return; /* an error: every status but DEPOT_WAL_DONE is above 0 */
+        return;
     snprintf(what, sizeof what, "scooter %u: profile %u off, profile %u on", scooter, from, to);
     write_record(body, out.used, what);
 }
 
-/* Takes over the values of one record. The body is checked first, so that a record counts wholly or
- * not at all. */
-static int replay_record(const uint8_t *body, size_t len)
-{
-    struct depot_wal_count entries;
-    struct depot_wal_entry e = {.next = 1}; /* where the first entry is */
-    if (depot_wal_body_check(body, len, &entries) != DEPOT_WAL_DONE || body[0] != DEPOT_WAL_SAMPLES)
-        return 0;
-    while (depot_wal_entry_at(body, len, e.next, &e) == DEPOT_WAL_DONE) {
-        uint64_t scooter = e.id / 10, profile = e.id % 10;
-        if (scooter >= 1 && scooter <= SCOOTERS && profile >= 1 && profile <= PROFILES)
-            value_of[scooter][profile] = e.bits;
-    }
-    return 1;
-}
-
-/* Reads the bytes of the log that are there, replays each record, and finds the place where writing
- * resumes. Returns the status that ended the reading. */
-static depot_wal_status replay(size_t survived)
+/* Reads the bytes of the log that are there, and finds the place where writing resumes. Returns the
+ * status that ended the reading. */
+static depot_wal_status read_log(size_t survived)
 {
     struct depot_wal_record r;
     depot_wal_status status;
-    memset(value_of, 0, sizeof value_of);
-    for (unsigned scooter = 1; scooter <= SCOOTERS; scooter++)
-        value_of[scooter][1] = ON; /* from the factory */
     log_end = 0;
     while ((status = depot_wal_read(flash, survived, log_end, buffer, sizeof buffer, &r))
            == DEPOT_WAL_DONE) {
-        int taken = replay_record(buffer, r.length);
-        printf("  record at %3" PRIu64 ", %" PRIu64 " bytes%s\n", r.start, r.length,
-               taken ? "" : ": not a switch, passed over");
+        printf("  record at %3" PRIu64 ", %" PRIu64 " bytes\n", r.start, r.length);
         log_end = r.next;
     }
     if (status == DEPOT_WAL_END) {
@@ -104,16 +119,22 @@ static depot_wal_status replay(size_t survived)
     return status;
 }
 
-/* Prints which profile is on. Returns whether it is exactly one for every scooter. */
-static int show_profiles(void)
+/* Replays the bytes of the log that are there and prints which profile is on. A record counts
+ * wholly or not at all, so a switch that was cut changes nothing. Returns whether exactly one
+ * profile is on for every scooter. */
+static int show_profiles(size_t survived)
 {
-    int good = 1;
+    struct depot_wal_replayed replayed;
+    depot_wal_status status =
+        depot_wal_replay(flash, survived, buffer, sizeof buffer, table, &replayed);
+    int good = status == DEPOT_WAL_DONE || status == DEPOT_WAL_TORN;
     for (unsigned scooter = 1; scooter <= SCOOTERS; scooter++) {
         unsigned on = 0;
         printf("  scooter %u:", scooter);
-        for (unsigned profile = 1; profile <= PROFILES; profile++) {
-            if (value_of[scooter][profile] == ON) {
-                printf(" profile %u is on", profile);
+        for (uint64_t i = 0; i < replayed.series; i++) {
+            if (table[i].id / 10 == scooter && table[i].bits == ON) {
+                printf(" profile %" PRIu64 " is on since %" PRId64, table[i].id % 10,
+                       table[i].time);
                 on++;
             }
         }
@@ -125,10 +146,12 @@ static int show_profiles(void)
 
 int main(void)
 {
-    const size_t cut = 150; /* inside the last switch, which has the bytes 132 to 175 */
+    const size_t cut = 470; /* inside the last switch, which has the bytes 455 to 498 */
 
     printf("Three scooters with profiles 1 to 3; from the factory profile 1 is on.\n"
            "Each switch is one record of the log:\n");
+    write_series();
+    write_factory();
     write_switch(1, 1, 2, 1000);
     write_switch(2, 1, 3, 2000);
     write_record(too_much, sizeof too_much, "a record that is too long");
@@ -138,14 +161,14 @@ int main(void)
     printf("The log has %zu bytes. The power fails when %zu of them stand. Read back:\n", log_end,
            cut);
     memset(flash + cut, 0, sizeof flash - cut);
-    if (replay(cut) != DEPOT_WAL_TORN || !show_profiles())
+    if (read_log(cut) != DEPOT_WAL_TORN || !show_profiles(cut))
         return 1;
 
     printf("Every scooter has exactly one profile on."
            " The cut switch is made again, where it began:\n");
     write_switch(3, 1, 2, 5000);
     printf("Read back:\n");
-    if (replay(log_end) != DEPOT_WAL_END || !show_profiles())
+    if (read_log(log_end) != DEPOT_WAL_END || !show_profiles(log_end))
         return 1;
 
     printf("\nTo list a segment file of your own: target/bin/list < FILE\n");

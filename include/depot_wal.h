@@ -2,9 +2,9 @@
  * proved).
  *
  * A segment is a caller-owned buffer. Records of 0 to 65,536 bytes are written into it and read
- * back, and five types of record bodies are encoded and decoded. docs/FORMAT.md draws the bytes;
- * examples/switch.c is a whole program. The archive is for Linux on x86-64; beside the caller's
- * memory it needs `memset`.
+ * back, five types of record bodies are encoded and decoded, and a log is replayed into a table of
+ * what each series had last. docs/FORMAT.md draws the bytes; examples/switch.c is a whole program.
+ * The archive is for Linux on x86-64; beside the caller's memory it needs `memset` and `memcpy`.
  *
  * An example (`make test` compiles and runs it)
  *
@@ -49,14 +49,16 @@
  *   A call that writes: the first field, `next` or `used`, is what to pass to the next call. On an
  *   error that is the value which this call was given (0 when starting a body), so always go on
  *   with it. `error_at` is the place of the error, else 0.
+ *   A replay: `error_at` is the place of the error, else 0; the others always count the table.
  *   A place is an offset in the segment or in the body.
- *   On an error or at an end nothing but *out has changed; of the page feed, see there.
+ *   On an error or at an end nothing but *out has changed; of the page feed and of a replay, see
+ *   there.
  *
  * What the caller owes
  *   - Every pointer is valid for its length, `out`, `table` and `state` for their declared size,
  *     and aligned for its type. A pointer whose length is 0 may be NULL. `out`, `table` and `state`
  *     are never NULL.
- *   - What a call may write (the segment of a write, the buffer, `out`, `state`, the table to be
+ *   - What a call may write (the segment of a write, the buffer, `out`, `state`, a table to be
  *     filled) does not overlap anything else that is passed to the same call.
  *   - Nobody else writes any of this memory while the call runs.
  *   Nothing more: any bytes, place, length, type and number get a defined result.
@@ -69,8 +71,8 @@
  *   - It allocates nothing and keeps nothing between calls. So calls may run at the same time where
  *     none of them writes memory that another one uses: a table, or a segment that is only read,
  *     may be shared.
- *   - Seen in the machine code, not proved: every call takes less than 5 KiB of stack, and none
- *     recurses.
+ *   - Seen in the machine code, not proved: every call takes less than 5 KiB of stack, a replay
+ *     less than 25 KiB, and none recurses.
  *
  * From memory to the medium
  *   A call works on memory, and a write stores its bytes there in no promised order. The caller
@@ -114,8 +116,10 @@ extern "C" {
 #define DEPOT_WAL_RECORD_MAX   65536u     /* a record at most, a read's buffer at least */
 #define DEPOT_WAL_SEGMENT_MAX  134217728u /* a segment at most */
 
-#define DEPOT_WAL_TABLE_LEN 2048 /* numbers in the checksum's table */
-#define DEPOT_WAL_FEED_LEN  16   /* numbers in the state of a page feed */
+#define DEPOT_WAL_TABLE_LEN  2048 /* numbers in the checksum's table */
+#define DEPOT_WAL_FEED_LEN   16   /* numbers in the state of a page feed */
+#define DEPOT_WAL_SERIES_MAX 256  /* series in the table of a replay */
+#define DEPOT_WAL_REPLAY_LEN 1280 /* numbers in that table: five for each series */
 
 /* The types of record bodies. */
 enum depot_wal_type {
@@ -134,7 +138,7 @@ typedef uint32_t depot_wal_status;
 enum {
     DEPOT_WAL_DONE = 0,          /* no error */
     DEPOT_WAL_BAD_BUFFER = 1,    /* a segment, page or buffer of a length that is not allowed */
-    DEPOT_WAL_BAD_PLACE = 2,     /* no such place, or no such state of a body or feed */
+    DEPOT_WAL_BAD_PLACE = 2,     /* no such place or state, or a page that was not asked for */
     DEPOT_WAL_RESERVED = 3,      /* a reserved bit is set in a type byte */
     DEPOT_WAL_COMPRESSED = 4,    /* a compression bit is set in a type byte */
     DEPOT_WAL_BAD_TYPE = 5,      /* a fragment of kind 5, 6 or 7 */
@@ -152,6 +156,7 @@ enum {
     DEPOT_WAL_LIST_FULL = 24,    /* more entries than a list holds; no call here returns it */
     DEPOT_WAL_BAD_LIST = 25,     /* an odd number of strings, or lengths that do not add up */
     DEPOT_WAL_WRONG_KIND = 26,   /* an entry for a body of another type */
+    DEPOT_WAL_TABLE_FULL = 28,   /* a log with more than 256 series */
     DEPOT_WAL_END = 200,         /* the end of the log or of the body; no error */
     DEPOT_WAL_MORE = 201         /* the next page is asked for; no error */
 };
@@ -161,8 +166,8 @@ static inline const char *depot_wal_status_text(depot_wal_status status)
 {
     switch (status) {
     case DEPOT_WAL_DONE: return "done";
-    case DEPOT_WAL_BAD_BUFFER: return "segment or record buffer of a length that is not allowed";
-    case DEPOT_WAL_BAD_PLACE: return "no such place in the segment or body";
+    case DEPOT_WAL_BAD_BUFFER: return "segment, page or buffer of a length that is not allowed";
+    case DEPOT_WAL_BAD_PLACE: return "no such place or state, or page not asked for";
     case DEPOT_WAL_RESERVED: return "corrupt: reserved bit set in a type byte";
     case DEPOT_WAL_COMPRESSED: return "compressed record, which is not supported";
     case DEPOT_WAL_BAD_TYPE: return "corrupt: unknown kind of fragment";
@@ -180,6 +185,7 @@ static inline const char *depot_wal_status_text(depot_wal_status status)
     case DEPOT_WAL_LIST_FULL: return "more entries than the list holds";
     case DEPOT_WAL_BAD_LIST: return "odd number of strings, or lengths that do not add up";
     case DEPOT_WAL_WRONG_KIND: return "entry for a body of another type";
+    case DEPOT_WAL_TABLE_FULL: return "more series than the table holds";
     case DEPOT_WAL_END: return "nothing more to read";
     case DEPOT_WAL_MORE: return "the next page is asked for";
     default: return "unknown status";
@@ -235,13 +241,31 @@ struct depot_wal_string {
     uint64_t length; /* its bytes */
 };
 
+/* Of a replay. */
+struct depot_wal_replayed {
+    uint64_t error_at; /* the place of the error, else 0 */
+    uint64_t series;   /* how many series the table has, which are its first rows */
+    uint64_t orphans;  /* how many samples had an id that was not entered before them */
+};
+
+/* A row of the table of a replay: a series, and what it had last. */
+struct depot_wal_series {
+    uint64_t id;      /* series id */
+    uint64_t rows;    /* how many of its rows were replayed */
+    int64_t time;     /* the latest time of these; 0 without rows */
+    uint64_t bits;    /* the 64 bits of the value at that time; 0 without rows */
+    uint64_t deleted; /* 1 if a tombstone that came after that row covers its time, else 0 */
+};
+
 /* The library writes each of them as an array of uint64_t, so none may be padded. This is a check
  * at compile time. */
 typedef char depot_wal_layout[
     sizeof(struct depot_wal_written) == 2 * 8 && sizeof(struct depot_wal_built) == 2 * 8 &&
     sizeof(struct depot_wal_record) == 3 * 8 && sizeof(struct depot_wal_fed) == 1 * 8 &&
     sizeof(struct depot_wal_count) == 1 * 8 &&
-    sizeof(struct depot_wal_entry) == 8 * 8 && sizeof(struct depot_wal_string) == 2 * 8 ? 1 : -1];
+    sizeof(struct depot_wal_entry) == 8 * 8 && sizeof(struct depot_wal_string) == 2 * 8 &&
+    sizeof(struct depot_wal_replayed) == 3 * 8 && sizeof(struct depot_wal_series) == 5 * 8
+        ? 1 : -1];
 
 /* ---- the segment ---- */
 
@@ -315,8 +339,8 @@ void depot_wal_feed_start(uint64_t state[DEPOT_WAL_FEED_LEN]);
 /* Feeds the next page.
  * Result: error_at is 0.
  * Errors, with error_at:
- *   the last read's        its place  a read has returned an error that is about the bytes, other
- *                                     than DEPOT_WAL_TORN: every feed returns it again
+ *   of an earlier read     its place  one about the bytes, other than DEPOT_WAL_TORN: every later
+ *                                     feed returns it again
  *   DEPOT_WAL_BAD_BUFFER   0          the page is above DEPOT_WAL_PAGE, or all pages together above
  *                                     DEPOT_WAL_SEGMENT_MAX
  *   DEPOT_WAL_BAD_PLACE    0          the last page was fed, or no read has asked for this one
@@ -473,6 +497,35 @@ depot_wal_status depot_wal_entry_at(const uint8_t *body, size_t len, size_t plac
  * Changes: *out. */
 depot_wal_status depot_wal_string_at(const uint8_t *body, size_t len, size_t place,
                                      struct depot_wal_string *out);
+
+/* ---- replaying a log ---- */
+
+/* Replays the records of a segment, from its start, into a table: what each series had last.
+ *   - A series is entered where a series body (DEPOT_WAL_SERIES) first has its id; the rows of the
+ *     table are in that order.
+ *   - A sample is counted for its series. The first, and any that is later than the latest, sets
+ *     time and bits, and ends a deletion; at an equal or earlier time it is counted only. A sample
+ *     whose id is not entered yet counts as an orphan.
+ *   - A tombstone from min to max that covers the latest time marks its series as deleted. One for
+ *     an id that is not entered, or for a series without rows, changes nothing; nor does one with
+ *     min above max.
+ *   - Exemplars and metadata change nothing.
+ * Each record counts wholly or not at all.
+ * Result: how many series and orphans there are.
+ * Errors, with error_at. The table is then that of the records before:
+ *   DEPOT_WAL_BAD_BUFFER   0         the segment is above DEPOT_WAL_SEGMENT_MAX, or the buffer
+ *                                    below DEPOT_WAL_RECORD_MAX; there are no series, no orphans
+ *   of depot_wal_read      as there  a record cannot be read; DEPOT_WAL_TORN too: the table then has
+ *                                    every whole record
+ *   of depot_wal_body_check  record  the body of a record cannot be read
+ *   DEPOT_WAL_TABLE_FULL   record    the record brings more than DEPOT_WAL_SERIES_MAX series
+ * "record" is the start of that record. The last two are checked for each record, in this order.
+ * Changes: the rows of the table up to `series` (the others stay), *out, and the buffer, which each
+ * record that is read overwrites from its front. */
+depot_wal_status depot_wal_replay(const uint8_t *segment, size_t segment_len,
+                                  uint8_t *buffer, size_t buffer_len,
+                                  struct depot_wal_series table[DEPOT_WAL_SERIES_MAX],
+                                  struct depot_wal_replayed *out);
 
 #ifdef __cplusplus
 }

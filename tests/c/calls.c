@@ -47,6 +47,7 @@ union result {
     struct depot_wal_count count;
     struct depot_wal_entry entry;
     struct depot_wal_string string;
+    struct depot_wal_replayed replayed;
 };
 static union result guarded[3], *const out = &guarded[1];
 enum { PATTERN = 0xA5 };
@@ -58,7 +59,7 @@ static int gives(depot_wal_status got, depot_wal_status status, const void *want
            all(result + n, 2 * sizeof *out - n, PATTERN);
 }
 
-/* Whether the call returns the status and writes exactly this result: one of the seven below, where
+/* Whether the call returns the status and writes exactly this result: one of those below, where
  * fields that are not named are 0. */
 #define GIVES(call, status, ...) \
     (memset(guarded, PATTERN, sizeof guarded), gives((call), (status), __VA_ARGS__))
@@ -69,6 +70,7 @@ static int gives(depot_wal_status got, depot_wal_status status, const void *want
 #define COUNT(...) &(struct depot_wal_count){__VA_ARGS__}, sizeof(struct depot_wal_count)
 #define ENTRY(...) &(struct depot_wal_entry){__VA_ARGS__}, sizeof(struct depot_wal_entry)
 #define STRING(...) &(struct depot_wal_string){__VA_ARGS__}, sizeof(struct depot_wal_string)
+#define REPLAYED(...) &(struct depot_wal_replayed){__VA_ARGS__}, sizeof(struct depot_wal_replayed)
 
 /* Writes bytes given as text in hexadecimal; blanks do not matter. Returns how many. */
 static size_t put(uint8_t *to, const char *text)
@@ -116,14 +118,23 @@ static void layouts(void)
     FIELD(depot_wal_entry, 7, next);
     FIELD(depot_wal_string, 0, start);
     FIELD(depot_wal_string, 1, length);
+    FIELD(depot_wal_replayed, 0, error_at);
+    FIELD(depot_wal_replayed, 1, series);
+    FIELD(depot_wal_replayed, 2, orphans);
+    FIELD(depot_wal_series, 0, id);
+    FIELD(depot_wal_series, 1, rows);
+    FIELD(depot_wal_series, 2, time);
+    FIELD(depot_wal_series, 3, bits);
+    FIELD(depot_wal_series, 4, deleted);
+    CHECK(DEPOT_WAL_REPLAY_LEN == 5 * DEPOT_WAL_SERIES_MAX);
 }
 
 /* Each status has a text of its own, any other number the same one. */
 static void texts(void)
 {
     static const depot_wal_status known[] = {0,  1,  2,  3,  4,  5,  6,  7,  8,  9,  10,
-                                             11, 12, 20, 21, 22, 23, 24, 25, 26, 200, 201};
-    static const depot_wal_status unknown[] = {13, 19, 27, 199, 202, UINT32_MAX};
+                                             11, 12, 20, 21, 22, 23, 24, 25, 26, 28, 200, 201};
+    static const depot_wal_status unknown[] = {13, 19, 27, 29, 199, 202, UINT32_MAX};
     for (size_t i = 0; i < sizeof known / sizeof *known; i++) {
         const char *text = depot_wal_status_text(known[i]);
         int own = strcmp(text, "unknown status") != 0;
@@ -1057,6 +1068,186 @@ static void body_places(void)
     ENTRY_AT(body, n, 0, DEPOT_WAL_UNKNOWN_TYPE, .type = 0);
 }
 
+/* ---- replaying a log ---- */
+
+/* The log is the first log_len bytes of `segment`; `left` is the record buffer after all its
+ * records were read. */
+static size_t log_len;
+static uint8_t left[sizeof buffer];
+
+static void new_log(void)
+{
+    log_len = 0;
+    memset(left, 0x5C, sizeof left);
+}
+
+/* Adds a record of n bytes; returns its start. */
+static size_t log_bytes(const uint8_t *bytes, size_t n)
+{
+    size_t start_at = log_len;
+    CHECK(depot_wal_write(segment, sizeof segment, log_len, bytes, n, &out->written) == DONE);
+    memcpy(left, bytes, n);
+    log_len = out->written.next;
+    return start_at;
+}
+
+/* Adds a record with entries of one type. */
+static size_t log_entries(uint8_t type, const struct entry *entries, size_t n)
+{
+    size_t used = 1;
+    start(__LINE__, type);
+    for (size_t i = 0; i < n; i++) {
+        CHECK(add(type, sizeof body, type, used, &entries[i]) == DONE);
+        used = out->built.used;
+    }
+    return log_bytes(body, used);
+}
+#define LOG(type, ...) \
+    log_entries(type, (struct entry[]){__VA_ARGS__}, \
+                sizeof((struct entry[]){__VA_ARGS__}) / sizeof(struct entry))
+
+/* Replays the log. The first n rows of the table are as given, the others unchanged, and the
+ * buffer is as the reads left it. */
+static void replays(int line, depot_wal_status status, uint64_t at, uint64_t orphans,
+                    const struct depot_wal_series *rows, size_t n)
+{
+    static struct depot_wal_series got[DEPOT_WAL_SERIES_MAX + 1];
+    memset(got, PATTERN, sizeof got);
+    memset(buffer, 0x5C, sizeof buffer);
+    check(line, GIVES(depot_wal_replay(segment, log_len, buffer, sizeof buffer, got,
+                                       &out->replayed),
+                      status, REPLAYED(.error_at = at, .series = n, .orphans = orphans)),
+          "replay");
+    check(line, n == 0 || memcmp(got, rows, n * sizeof *rows) == 0, "the series");
+    check(line, all((const uint8_t *)(got + n), sizeof got - n * sizeof *got, PATTERN),
+          "the other rows are unchanged");
+    check(line, memcmp(buffer, left, sizeof buffer) == 0, "the buffer is as the reads left it");
+}
+#define SERIES(...) \
+    (struct depot_wal_series[]){__VA_ARGS__}, \
+        sizeof((struct depot_wal_series[]){__VA_ARGS__}) / sizeof(struct depot_wal_series)
+
+/* Rows: in the order first entered, orphans, equal, earlier and later times. */
+static void replayed_rows(void)
+{
+    new_log();
+    replays(__LINE__, DONE, 0, 0, NULL, 0);
+    LOG(2, {.id = 7, .time = 1}); /* not entered yet */
+    LOG(1, {.id = 8}, {.id = 7}, {.id = 8});
+    replays(__LINE__, DONE, 0, 1, SERIES({.id = 8}, {.id = 7}));
+    LOG(2, {.id = 7, .time = -5, .bits = 1}, {.id = 8, .time = INT64_MIN, .bits = 2},
+        {.id = 9, .time = 3});
+    replays(__LINE__, DONE, 0, 2, SERIES({.id = 8, .rows = 1, .time = INT64_MIN, .bits = 2},
+                                         {.id = 7, .rows = 1, .time = -5, .bits = 1}));
+    LOG(2, {.id = 7, .time = -5, .bits = 3}, {.id = 7, .time = -6, .bits = 4});
+    LOG(1, {.id = 7}); /* a repeated id keeps its first entry */
+    LOG(2, {.id = 8, .time = INT64_MAX, .bits = TOP});
+    LOG(4, {.id = 7, .time = 99, .bits = 9});
+    LOG(6, {.id = 7, .bits = 9});
+    replays(__LINE__, DONE, 0, 2, SERIES({.id = 8, .rows = 2, .time = INT64_MAX, .bits = TOP},
+                                         {.id = 7, .rows = 3, .time = -5, .bits = 1}));
+}
+
+/* Tombstones: of the latest time, of others, of none; a later row ends the deletion. */
+static void replayed_tombstones(void)
+{
+    struct depot_wal_series row = {.id = 7, .rows = 1, .time = -5, .bits = 1};
+    new_log();
+    LOG(1, {.id = 7}, {.id = 8});
+    LOG(3, {.id = 7, .time = INT64_MIN, .max = INT64_MAX}); /* without rows */
+    LOG(2, {.id = 7, .time = -5, .bits = 1});
+    LOG(3, {.id = 7, .time = -4, .max = 9}, {.id = 7, .time = -9, .max = -6},
+        {.id = 7, .time = -4, .max = -6}, {.id = 9, .time = -9, .max = 9});
+    replays(__LINE__, DONE, 0, 0, SERIES(row, {.id = 8}));
+    LOG(3, {.id = 7, .time = -5, .max = -5});
+    row.deleted = 1;
+    replays(__LINE__, DONE, 0, 0, SERIES(row, {.id = 8}));
+    LOG(2, {.id = 7, .time = -5, .bits = 2}); /* counted only */
+    row.rows = 2;
+    replays(__LINE__, DONE, 0, 0, SERIES(row, {.id = 8}));
+    LOG(2, {.id = 7, .time = -4, .bits = 3});
+    replays(__LINE__, DONE, 0, 0,
+            SERIES({.id = 7, .rows = 3, .time = -4, .bits = 3}, {.id = 8}));
+}
+
+/* 256 series fill the table; a record that brings one more is refused whole. */
+static void replayed_limit(void)
+{
+    static struct entry many[DEPOT_WAL_SERIES_MAX + 1];
+    static struct depot_wal_series rows[DEPOT_WAL_SERIES_MAX];
+    for (size_t i = 0; i <= DEPOT_WAL_SERIES_MAX; i++)
+        many[i].id = i << 12; /* the low bits tell none from another */
+    for (size_t i = 0; i < DEPOT_WAL_SERIES_MAX; i++)
+        rows[i].id = i << 12;
+    new_log();
+    log_entries(1, many, DEPOT_WAL_SERIES_MAX + 1);
+    replays(__LINE__, DEPOT_WAL_TABLE_FULL, 0, 0, NULL, 0);
+    new_log();
+    log_entries(1, many, DEPOT_WAL_SERIES_MAX - 1);
+    size_t at = log_entries(1, many + DEPOT_WAL_SERIES_MAX - 2, 3);
+    replays(__LINE__, DEPOT_WAL_TABLE_FULL, at, 0, rows, DEPOT_WAL_SERIES_MAX - 1);
+    log_len = at;
+    log_entries(1, many, DEPOT_WAL_SERIES_MAX);
+    LOG(2, {.id = 255 << 12, .time = 1, .bits = ONE}, {.id = 1});
+    rows[255].rows = 1;
+    rows[255].time = 1;
+    rows[255].bits = ONE;
+    replays(__LINE__, DONE, 0, 1, rows, DEPOT_WAL_SERIES_MAX);
+    at = log_entries(1, &(struct entry){.id = 1}, 1);
+    replays(__LINE__, DEPOT_WAL_TABLE_FULL, at, 1, rows, DEPOT_WAL_SERIES_MAX);
+}
+
+/* What stops a replay: the records before stand, and nothing of the one at fault. */
+static void replay_errors(void)
+{
+    static const struct {
+        const char *body;
+        depot_wal_status status;
+    } faults[] = {{"", DEPOT_WAL_EMPTY_BODY},
+                  {"05", DEPOT_WAL_UNKNOWN_TYPE},
+                  {"01 0000000000000009 00  00", DEPOT_WAL_SHORT},
+                  {"06 FFFFFFFFFFFFFFFFFF02", DEPOT_WAL_BAD_VARINT}};
+    static struct depot_wal_series rows[DEPOT_WAL_SERIES_MAX];
+    uint8_t bytes[64];
+    for (size_t i = 0; i < sizeof faults / sizeof *faults; i++) {
+        new_log();
+        LOG(1, {.id = 7});
+        size_t at = log_bytes(bytes, put(bytes, faults[i].body));
+        replays(__LINE__, faults[i].status, at, 0, SERIES({.id = 7}));
+        static uint8_t stopped[sizeof left]; /* what comes after is not read */
+        memcpy(stopped, left, sizeof left);
+        LOG(1, {.id = 8});
+        memcpy(left, stopped, sizeof left);
+        replays(__LINE__, faults[i].status, at, 0, SERIES({.id = 7}));
+    }
+
+    /* The reading's own errors, at their own place; the record in error is not in the buffer. */
+    new_log();
+    LOG(1, {.id = 7});
+    static uint8_t stopped[sizeof left];
+    memcpy(stopped, left, sizeof left);
+    size_t at = LOG(1, {.id = 8});
+    memcpy(left, stopped, sizeof left);
+    log_len--;
+    replays(__LINE__, DEPOT_WAL_TORN, at, 0, SERIES({.id = 7}));
+    log_len++;
+    segment[log_len - 1] ^= 1;
+    replays(__LINE__, DEPOT_WAL_BAD_SUM, at, 0, SERIES({.id = 7}));
+
+    /* BAD_BUFFER, before all else. */
+    memset(rows, PATTERN, sizeof rows);
+    memset(buffer, 0x5C, sizeof buffer);
+    CHECK(GIVES(depot_wal_replay(segment, log_len, buffer, DEPOT_WAL_RECORD_MAX - 1, rows,
+                                 &out->replayed),
+                DEPOT_WAL_BAD_BUFFER, REPLAYED(.error_at = 0)));
+    CHECK(GIVES(depot_wal_replay(huge, LIMIT + 1, buffer, sizeof buffer, rows, &out->replayed),
+                DEPOT_WAL_BAD_BUFFER, REPLAYED(.error_at = 0)));
+    CHECK(GIVES(depot_wal_replay(NULL, 0, NULL, 0, rows, &out->replayed), DEPOT_WAL_BAD_BUFFER,
+                REPLAYED(.error_at = 0)));
+    CHECK(all((const uint8_t *)rows, sizeof rows, PATTERN));
+    CHECK(all(buffer, sizeof buffer, 0x5C));
+}
+
 int main(int argc, char **argv)
 {
     layouts();
@@ -1085,6 +1276,10 @@ int main(int argc, char **argv)
     addition_limits();
     corrupt_bodies();
     body_places();
+    replayed_rows();
+    replayed_tombstones();
+    replayed_limit();
+    replay_errors();
     long cases = damage(argc > 1 ? argv[1] : "tests/damage.txt");
     printf("calls: %ld checks passed, %ld cases of named damage among them\n", checks, cases);
     return 0;

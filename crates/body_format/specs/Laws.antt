@@ -5,6 +5,7 @@ pub mod Bounds
 pub mod Kept
 pub mod Types
 pub mod Lists
+pub mod OfType
 pub mod Strings
 pub mod Entries
 pub mod Additions
