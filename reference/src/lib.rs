@@ -1,7 +1,7 @@
 //! The second program: the format (docs/FORMAT.md) in plain Rust, written from the customer's rules
 //! alone and never from the product's code, so that the product can be compared with it. Clear
-//! before fast; the checksum, the bodies and the feed are also made fast, since the product's speed
-//! is measured against them.
+//! before fast; the checksum, the bodies, the feed and replay are also made fast, since the
+//! product's speed is measured against them.
 
 #![forbid(unsafe_code)]
 
@@ -11,6 +11,7 @@ pub mod damage;
 pub mod feed;
 pub mod listing;
 pub mod refusal;
+pub mod replay;
 pub mod rows;
 pub mod segment;
 pub mod selftest;

@@ -1,4 +1,4 @@
-//! The status numbers (FORMAT 12).
+//! The status numbers (FORMAT 12 and document 02).
 
 /// A refusal: its number and the place reported.
 #[derive(Clone, Copy, Debug, PartialEq, Eq)]
@@ -26,6 +26,8 @@ pub const BAD_VARINT: u32 = 23;
 pub const LIST_FULL: u32 = 24;
 pub const BAD_LIST: u32 = 25;
 pub const WRONG_KIND: u32 = 26;
+/// Document 02 [3]: a record brings a series more than the table has rows.
+pub const TABLE_FULL: u32 = 28;
 
 /// `Err` with the number and the place.
 pub fn refuse<T>(number: u32, place: usize) -> Result<T, Refusal> {

@@ -1,6 +1,8 @@
 //! The page feed (document 02 [2]) against the reader of one slice, and calls in orders that nobody
 //! should make.
 
+mod rng;
+
 use reference::crc32c;
 use reference::feed::{Feed, Read};
 use reference::refusal::*;
@@ -8,6 +10,7 @@ use reference::segment::{
     self, left_in_page, Reading, EMPTY, FIRST, FRAGMENT_MAX, FULL, HEADER, LAST, MIDDLE, PAGE,
     RECORD_MAX, SEGMENT_MAX,
 };
+use rng::Rng;
 use std::collections::BTreeSet;
 
 /// What the record buffer holds where nothing was stored.
@@ -172,34 +175,7 @@ fn compare(segment: &[u8]) -> u32 {
 
 // ---- Generated segments ----
 
-/// Numbers that look random and are the same each time (splitmix64).
-struct Rng(u64);
-
 impl Rng {
-    fn next(&mut self) -> u64 {
-        self.0 = self.0.wrapping_add(0x9E37_79B9_7F4A_7C15);
-        let mut mixed = self.0;
-        mixed = (mixed ^ (mixed >> 30)).wrapping_mul(0xBF58_476D_1CE4_E5B9);
-        mixed = (mixed ^ (mixed >> 27)).wrapping_mul(0x94D0_49BB_1331_11EB);
-        mixed ^ (mixed >> 31)
-    }
-
-    fn below(&mut self, limit: usize) -> usize {
-        (self.next() % limit as u64) as usize
-    }
-
-    fn once_in(&mut self, times: usize) -> bool {
-        self.below(times) == 0
-    }
-
-    fn pick<T: Copy>(&mut self, list: &[T]) -> T {
-        list[self.below(list.len())]
-    }
-
-    fn bytes(&mut self, length: usize) -> Vec<u8> {
-        (0..length).map(|_| self.next() as u8).collect()
-    }
-
     /// Short, or long, or such that 0 to 14 bytes are left in the page.
     fn length(&mut self, room: usize) -> usize {
         let length = match self.below(6) {
