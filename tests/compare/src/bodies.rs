@@ -26,7 +26,7 @@ pub fn groups() -> Vec<Group> {
     ]
 }
 
-const KINDS: [u8; 5] = [
+pub(crate) const KINDS: [u8; 5] = [
     body::SERIES,
     body::SAMPLES,
     body::TOMBSTONES,
@@ -316,7 +316,7 @@ fn spoil(rng: &mut Rng, lengths: &mut Vec<u64>) {
 }
 
 /// Numbers near `base`, near powers of two, at both ends, and any.
-fn any_number(rng: &mut Rng, base: u64) -> u64 {
+pub(crate) fn any_number(rng: &mut Rng, base: u64) -> u64 {
     let little = rng.below(5) as u64;
     match rng.below(6) {
         0 | 1 => base.wrapping_add(little).wrapping_sub(2),
@@ -498,7 +498,7 @@ fn any_byte(rng: &mut Rng) -> u8 {
     }
 }
 
-fn hand_made(rng: &mut Rng) -> Vec<u8> {
+pub(crate) fn hand_made(rng: &mut Rng) -> Vec<u8> {
     let kind = rng.pick(&KINDS);
     let mut bytes = vec![kind];
     let rows = kind == body::SAMPLES || kind == body::EXEMPLARS;
@@ -563,7 +563,7 @@ fn push_uvarint(rng: &mut Rng, bytes: &mut Vec<u8>) {
 }
 
 /// The uvarint, sometimes longer than needed, sometimes with a tenth byte above 1.
-fn push_padded(rng: &mut Rng, number: u64, bytes: &mut Vec<u8>) {
+pub(crate) fn push_padded(rng: &mut Rng, number: u64, bytes: &mut Vec<u8>) {
     let start = bytes.len();
     varint::write_uvarint(number, bytes);
     let length = bytes.len() - start;
@@ -593,7 +593,7 @@ fn compare_noise(rng: &mut Rng) -> Outcome {
 }
 
 /// Less than 40 bytes, the first mostly a known type.
-fn noise(rng: &mut Rng) -> Vec<u8> {
+pub(crate) fn noise(rng: &mut Rng) -> Vec<u8> {
     let length = rng.below(40);
     let mut bytes: Vec<u8> = (0..length).map(|_| any_byte(rng)).collect();
     if let (Some(first), false) = (bytes.first_mut(), rng.once_in(10)) {

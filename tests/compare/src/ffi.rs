@@ -5,6 +5,7 @@
 pub mod bare;
 mod bodies;
 pub mod feed;
+pub mod replay;
 
 pub use bodies::{add, body_check, body_start, entry_at, string_at};
 use std::sync::atomic::{AtomicBool, Ordering};
@@ -19,7 +20,8 @@ pub const END: u32 = 200;
 
 const PATTERN: u64 = 0xA5A5_5A5A_C3C3_3C3C;
 
-/// What a call returned and left in `out`; `beside` says whether it wrote beside `out` or a state.
+/// What a call returned and left in `out`; `beside` says whether it wrote beside `out`, a state or
+/// a table of series.
 #[derive(Clone, Copy, Debug, PartialEq, Eq)]
 pub struct Answer<const N: usize> {
     pub number: u32,
@@ -66,6 +68,18 @@ fn answer<const N: usize>(call: impl FnOnce(*mut u64) -> u32) -> Answer<N> {
         out: lent.out,
         beside: lent.beside(),
     }
+}
+
+/// Makes the call with a guarded copy of the numbers, and takes over what it left there.
+fn lend<const N: usize, const M: usize>(
+    numbers: &mut [u64; M],
+    call: impl FnOnce(*mut u64) -> Answer<N>,
+) -> Answer<N> {
+    let mut lent = Guarded::new(*numbers);
+    let mut answer = call(lent.out.as_mut_ptr());
+    answer.beside |= lent.beside();
+    *numbers = lent.out;
+    answer
 }
 
 static NULL_NEXT: AtomicBool = AtomicBool::new(false);

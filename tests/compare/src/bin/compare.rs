@@ -2,7 +2,7 @@
 //! on the real segments of a folder; nonzero on the first difference, with the seed and the case.
 
 use compare::rng::Rng;
-use compare::{bodies, checksums, feed, fixtures, rows, segments, Group, Outcome};
+use compare::{bodies, checksums, feed, fixtures, replay, rows, segments, Group, Outcome};
 use std::io::Write;
 use std::path::Path;
 use std::process::ExitCode;
@@ -55,6 +55,7 @@ fn groups() -> Vec<Group> {
         segments::groups(),
         feed::groups(),
         bodies::groups(),
+        replay::groups(),
     ]
     .concat()
 }
@@ -91,5 +92,6 @@ fn compare_file(rng: &mut Rng, bytes: &[u8]) -> Outcome {
     let reads = segments::compare_file(rng, bytes)?;
     let feeds = feed::compare_file(rng, bytes)?;
     let bodies = bodies::compare_file(rng, bytes)?;
-    Ok(sums + reads + feeds + bodies)
+    let replays = replay::compare_file(rng, bytes)?;
+    Ok(sums + reads + feeds + bodies + replays)
 }

@@ -5,6 +5,7 @@ use super::bodies::{
     depot_wal_add_sample, depot_wal_body_check, depot_wal_body_start, depot_wal_entry_at,
 };
 use super::feed::{depot_wal_feed_page, depot_wal_feed_read, depot_wal_feed_start, State as Feed};
+use super::replay::{depot_wal_replay, SeriesTable};
 use super::*;
 use reference::body::{Sample, State};
 
@@ -83,6 +84,21 @@ pub fn feed_read(state: &mut Feed, page: &[u8], buffer: &mut [u8], out: &mut [u6
     let (room, room_len) = (buffer.as_mut_ptr(), buffer.len());
     let (state, out) = (state.as_mut_ptr(), out.as_mut_ptr());
     unsafe { depot_wal_feed_read(state, bytes, length, room, room_len, out) }
+}
+
+// ---- Replay ----
+
+#[inline]
+pub fn replay(
+    segment: &[u8],
+    buffer: &mut [u8],
+    table: &mut SeriesTable,
+    out: &mut [u64; 3],
+) -> u32 {
+    let (length, bytes) = (segment.len(), segment.as_ptr());
+    let (room, room_len) = (buffer.as_mut_ptr(), buffer.len());
+    let (table, out) = (table.as_mut_ptr(), out.as_mut_ptr());
+    unsafe { depot_wal_replay(bytes, length, room, room_len, table, out) }
 }
 
 // ---- Bodies ----

@@ -49,12 +49,3 @@ pub fn read(state: &mut State, page: &[u8], buffer: &mut [u8]) -> Answer<3> {
         answer(|out| unsafe { depot_wal_feed_read(state, page, length, buffer, buffer_len, out) })
     })
 }
-
-/// Makes the call with a guarded copy of the state, and takes over what it left there.
-fn lend<const N: usize>(state: &mut State, call: impl FnOnce(*mut u64) -> Answer<N>) -> Answer<N> {
-    let mut lent = Guarded::new(*state);
-    let mut answer = call(lent.out.as_mut_ptr());
-    answer.beside |= lent.beside();
-    *state = lent.out;
-    answer
-}

@@ -1,6 +1,6 @@
-//! `bench [LIST [SECOND]]`: in one run on one machine, the archive's calls beside the second program
-//! with its software checksum, and beside the SSE4.2 instruction; and the listing program LIST, by
-//! default target/bin/list, beside `SECOND list`, by default this program itself:
+//! `bench [LIST [SECOND]]`: in one run on one machine, the archive's calls beside the second
+//! program with its software checksum, and beside the SSE4.2 instruction; and the listing program
+//! LIST (by default target/bin/list) beside `SECOND list` (by default `bench list`).
 //! `bench list`: the second program's listing of standard input.
 
 mod bodies;
@@ -9,6 +9,7 @@ mod feed;
 mod hardware;
 mod list;
 mod records;
+mod replay;
 mod timing;
 
 use list::Programs;
@@ -38,6 +39,7 @@ fn main() {
         feed::bench(&mut segment),
         list::bench(&programs(&words), &segment),
         bodies::bench(),
+        replay::bench(),
     ];
     println!(
         "bench: time of the second program / ours plain, / ours with table, and of sse4.2 / ours \

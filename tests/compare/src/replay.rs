@@ -1,0 +1,256 @@
+//! Replay against the second program: answer, `out`, all numbers of the table, every byte of the
+//! segment and of the record buffer. And against the log itself: each sample row is counted once.
+
+mod broken;
+mod corpus;
+mod full;
+mod limit;
+mod logs;
+mod times;
+
+pub use corpus::compare_file;
+
+use crate::ffi::replay::{self, SeriesTable, REPLAY_LEN, ROW_LEN};
+use crate::ffi::Answer;
+use crate::rng::Rng;
+use crate::twin::Twin;
+use crate::Group;
+use reference::body::{self, SeriesId, Timestamp, SAMPLES};
+use reference::refusal::{BAD_BUFFER, BAD_VARINT, EMPTY_BODY, SHORT, TABLE_FULL, UNKNOWN_TYPE};
+use reference::replay::{Replayed, Row, Table, SERIES_MAX};
+use reference::segment::{self, Reading, RECORD_MAX};
+
+pub fn groups() -> Vec<Group> {
+    vec![
+        ("replay, few series", corpus::compare_few),
+        ("replay, many series", corpus::compare_many),
+        ("replay, rows and tombstones", times::compare_times),
+        ("replay, full tables", full::compare_words),
+        ("replay, full tables at once", full::compare_at_once),
+        ("replay, refused bodies", broken::compare_bodies),
+        ("replay, random bodies", broken::compare_noise),
+        ("replay, cuts", broken::compare_cuts),
+        ("replay, damage", broken::compare_damage),
+        ("replay, random bytes", broken::compare_bytes),
+        ("replay, bad lengths", broken::compare_lengths),
+        ("replay, at the limit", limit::compare_limit),
+    ]
+}
+
+/// Bytes of the longest log, the limit's aside.
+const ROOM: usize = 1 << 18;
+
+/// Of a log that differs, so many bytes are printed at most.
+const SHOWN: usize = 4_096;
+
+/// The caller-owned bytes and numbers, used again from case to case.
+struct Replays {
+    segment: Twin,
+    buffer: Twin,
+    /// What both tables hold before every call.
+    noise: Box<SeriesTable>,
+    /// What the log is read into to count its rows.
+    count_buffer: Vec<u8>,
+    cases: u64,
+}
+
+impl Replays {
+    fn new(rng: &mut Rng) -> Replays {
+        let segment = Twin::new(rng, ROOM);
+        Replays::with_segment(rng, segment)
+    }
+
+    fn with_segment(rng: &mut Rng, segment: Twin) -> Replays {
+        let mut replays = Replays {
+            segment,
+            buffer: Twin::new(rng, RECORD_MAX + 64),
+            noise: Box::new([0; REPLAY_LEN]),
+            count_buffer: vec![0; RECORD_MAX],
+            cases: 0,
+        };
+        replays.refill_table(rng);
+        replays
+    }
+
+    fn refill_table(&mut self, rng: &mut Rng) {
+        self.noise.fill_with(|| rng.number());
+    }
+
+    /// Puts a log into the segment, at any alignment.
+    fn put(&mut self, rng: &mut Rng, bytes: &[u8]) {
+        self.segment.shift(rng);
+        self.buffer.shift(rng);
+        self.segment.put(bytes);
+        if rng.once_in(8) {
+            self.buffer.refill(rng);
+            self.refill_table(rng);
+        }
+    }
+
+    /// Puts a log into the segment and replays it whole.
+    fn replay_log(&mut self, rng: &mut Rng, bytes: &[u8]) -> Result<Answer<3>, String> {
+        self.put(rng, bytes);
+        self.replay(bytes.len())
+    }
+
+    /// Replays the first `length` bytes of the segment.
+    fn replay(&mut self, length: usize) -> Result<Answer<3>, String> {
+        self.replay_into(length, RECORD_MAX)
+    }
+
+    /// The same with the first `room` bytes of the buffer.
+    fn replay_into(&mut self, length: usize, room: usize) -> Result<Answer<3>, String> {
+        self.cases += 1;
+        let (ours, theirs) = self.segment.both(0..length);
+        let (our_buffer, their_buffer) = self.buffer.both(0..room);
+        let mut table = *self.noise;
+        let mut rows = rows_of(&self.noise);
+        let got = replay::replay(ours, our_buffer, &mut table);
+        let wanted = reference::replay::replay(theirs, their_buffer, &mut rows);
+        self.compare_answers(got, replay_answer(&wanted))
+            .and_then(|()| compare_tables(&self.noise, &table, &rows[..wanted.series]))
+            .and_then(|()| left_behind(&self.noise, &rows, wanted.series))
+            .and_then(|()| self.compare_bytes(length))
+            .and_then(|()| self.count_rows(length, got, &table))
+            .map_err(|why| {
+                let log = self.segment.bytes(0..length.min(SHOWN));
+                format!("replay of {length} bytes into {room}: {why}; the log is {log:02X?}")
+            })?;
+        Ok(got)
+    }
+
+    fn compare_answers(&self, got: Answer<3>, wanted: Answer<3>) -> Result<(), String> {
+        match got == wanted {
+            true => Ok(()),
+            false => Err(format!("got {got:?}, wanted {wanted:?}")),
+        }
+    }
+
+    /// Every byte that was lent, with the guards around them.
+    fn compare_bytes(&self, length: usize) -> Result<(), String> {
+        for (name, twin, end) in [
+            ("segment", &self.segment, length),
+            ("buffer", &self.buffer, usize::MAX),
+        ] {
+            if !twin.equal_to(end) {
+                let place = twin.first_difference();
+                return Err(format!("{name} differs at {place:?}"));
+            }
+        }
+        Ok(())
+    }
+
+    /// Rows counted over all series plus orphans equal the sample rows in the records replayed,
+    /// counted from the log itself.
+    fn count_rows(
+        &mut self,
+        length: usize,
+        got: Answer<3>,
+        table: &SeriesTable,
+    ) -> Result<(), String> {
+        let [_, series, orphans] = got.out;
+        let rows = table.chunks_exact(ROW_LEN).map(|row| row[1]);
+        let counted = rows.take(series as usize).sum::<u64>() + orphans;
+        let present = self.rows_in_log(length, got)?;
+        if counted != present {
+            return Err(format!("{counted} rows counted, {present} in the log"));
+        }
+        Ok(())
+    }
+
+    /// The sample rows in the records before the one that the answer refuses, or in all.
+    fn rows_in_log(&mut self, length: usize, got: Answer<3>) -> Result<u64, String> {
+        if got.number == BAD_BUFFER {
+            return Ok(0);
+        }
+        let refused = is_of_record(got.number).then_some(got.out[0] as usize);
+        let bytes = self.segment.bytes(0..length);
+        let mut rows = 0;
+        let mut place = 0;
+        while let Ok(Reading::Record(record)) = segment::read(bytes, place, &mut self.count_buffer)
+        {
+            if refused == Some(record.start) {
+                return Ok(rows);
+            }
+            rows += sample_rows(&self.count_buffer[..record.length])
+                .map_err(|why| format!("the record at {} was replayed: {why}", record.start))?;
+            place = record.after;
+        }
+        match refused {
+            None => Ok(rows),
+            Some(start) => Err(format!("no record starts at {start}")),
+        }
+    }
+}
+
+/// The rows of a good body, which are 0 in all types but one.
+fn sample_rows(bytes: &[u8]) -> Result<u64, String> {
+    match body::check(bytes) {
+        Ok(entries) if bytes[0] == SAMPLES => Ok(entries as u64),
+        Ok(_) => Ok(0),
+        Err(refusal) => Err(format!("its body is {refusal:?}")),
+    }
+}
+
+/// The numbers that refuse a record which was read.
+fn is_of_record(number: u32) -> bool {
+    matches!(
+        number,
+        UNKNOWN_TYPE | EMPTY_BODY | SHORT | BAD_VARINT | TABLE_FULL
+    )
+}
+
+/// What `depot_wal_replay` has to answer.
+fn replay_answer(replayed: &Replayed) -> Answer<3> {
+    let (number, place) = match replayed.refusal {
+        None => (0, 0),
+        Some(refusal) => (refusal.number, refusal.place),
+    };
+    let series = replayed.series as u64;
+    Answer::new(number, [place as u64, series, replayed.orphans])
+}
+
+// ---- Tables ----
+
+/// The rows of the second program as near to these numbers as they come.
+fn rows_of(numbers: &SeriesTable) -> Table {
+    let mut rows = [Row::default(); SERIES_MAX];
+    for (row, numbers) in rows.iter_mut().zip(numbers.chunks_exact(ROW_LEN)) {
+        *row = Row {
+            id: SeriesId(numbers[0]),
+            rows: numbers[1],
+            latest: Timestamp(numbers[2] as i64),
+            bits: numbers[3],
+            deleted: numbers[4] % 2 == 1,
+        };
+    }
+    rows
+}
+
+/// A row as the archive has it.
+pub fn numbers_of(row: &Row) -> [u64; ROW_LEN] {
+    let deleted = u64::from(row.deleted);
+    [row.id.0, row.rows, row.latest.0 as u64, row.bits, deleted]
+}
+
+/// The archive's table has these series, and after them what was there before.
+fn compare_tables(before: &SeriesTable, table: &SeriesTable, series: &[Row]) -> Result<(), String> {
+    let got = table.chunks_exact(ROW_LEN);
+    let old = before.chunks_exact(ROW_LEN);
+    for (row, (got, old)) in got.zip(old).enumerate() {
+        let wanted = series.get(row).map(numbers_of);
+        if got != wanted.as_ref().map_or(old, |numbers| &numbers[..]) {
+            let wanted = wanted.map_or("as before".into(), |numbers| format!("{numbers:?}"));
+            return Err(format!("row {row} is {got:?}, wanted {wanted}"));
+        }
+    }
+    Ok(())
+}
+
+/// The second program too has left the rows after its series.
+fn left_behind(before: &SeriesTable, rows: &Table, series: usize) -> Result<(), String> {
+    match rows[series..] == rows_of(before)[series..] {
+        true => Ok(()),
+        false => Err("the second program wrote after its series".to_string()),
+    }
+}

@@ -1,0 +1,194 @@
+//! Logs with records that are refused, and logs that are cut, damaged or none at all.
+
+use super::corpus::any_log;
+use super::logs::{series, Log, World};
+use super::Replays;
+use crate::bodies;
+use crate::generate::{self, any_buffer, some_fragments, Fragment, Splitting};
+use crate::rng::Rng;
+use crate::Outcome;
+
+// ---- Bodies ----
+
+/// Short logs in which each record in turn has a body that is cut, changed, of another type or
+/// empty.
+pub fn compare_bodies(rng: &mut Rng) -> Outcome {
+    let mut replays = Replays::new(rng);
+    for _ in 0..40 {
+        let bodies = short_log(rng);
+        for place in 0..bodies.len() {
+            for body in broken_bodies(rng, &bodies[place]) {
+                let mut bodies = bodies.clone();
+                bodies[place] = body;
+                replays.replay_log(rng, &Log::of(&bodies).bytes)?;
+            }
+        }
+    }
+    Ok(replays.cases)
+}
+
+/// The bodies of a log: three ids entered, then up to six records.
+fn short_log(rng: &mut Rng) -> Vec<Vec<u8>> {
+    let mut world = World::new(rng, 5);
+    let mut bodies = vec![series(&world.ids[..3])];
+    for _ in 0..rng.below(7) {
+        bodies.push(world.body(rng, 3));
+    }
+    bodies
+}
+
+/// A body cut at every place, of every type, and with each byte changed into one that a varint goes
+/// on with.
+fn broken_bodies(rng: &mut Rng, body: &[u8]) -> Vec<Vec<u8>> {
+    let mut broken: Vec<Vec<u8>> = (0..body.len()).map(|cut| body[..cut].to_vec()).collect();
+    for kind in 0..=255 {
+        let rest = &body[body.len().min(1)..];
+        broken.push([&[kind], rest].concat());
+    }
+    for place in 1..body.len() {
+        let mut changed = body.to_vec();
+        changed[place] = rng.pick(&[0x80, 0xFF, 0x8F]);
+        broken.push(changed.clone());
+        // Ten bytes of which the last is above 1, or is missing.
+        let end = changed.len().min(place + 10);
+        changed[place..end].fill(0xFF);
+        broken.push(changed);
+    }
+    broken
+}
+
+/// Bodies of random bytes between good records.
+pub fn compare_noise(rng: &mut Rng) -> Outcome {
+    let mut replays = Replays::new(rng);
+    for _ in 0..40_000 {
+        let mut bodies = short_log(rng);
+        let place = rng.below(bodies.len() + 1);
+        let body = match rng.below(3) {
+            0 => bodies::hand_made(rng),
+            _ => bodies::noise(rng),
+        };
+        bodies.insert(place, body);
+        replays.replay_log(rng, &Log::of(&bodies).bytes)?;
+    }
+    Ok(replays.cases)
+}
+
+// ---- Segments ----
+
+/// Short logs cut at every byte; logs of several pages cut near the edges of fragments.
+pub fn compare_cuts(rng: &mut Rng) -> Outcome {
+    let mut replays = Replays::new(rng);
+    for _ in 0..120 {
+        let records = 4 + rng.below(12);
+        let log = any_log(rng, 4, records, 5);
+        replays.put(rng, &log.bytes);
+        for cut in 0..=log.bytes.len() {
+            replays.replay(cut)?;
+        }
+    }
+    for _ in 0..12 {
+        let sample = long_log(rng).sample();
+        replays.put(rng, &sample.bytes);
+        for fragment in some_fragments(rng, &sample) {
+            for cut in generate::cuts_near(fragment, sample.bytes.len()) {
+                replays.replay(cut)?;
+            }
+        }
+    }
+    Ok(replays.cases)
+}
+
+/// A log of two to four pages with records that go from one page to the next.
+fn long_log(rng: &mut Rng) -> Log {
+    let mut world = World::new(rng, 100);
+    let mut log = Log::of(&[series(&world.ids)]);
+    let end = generate::PAGES_MAX * 20_000;
+    while log.bytes.len() < end {
+        let most = rng.pick(&[10, 300, 2_000]);
+        let body = world.body(rng, most);
+        log.add(&body);
+    }
+    log
+}
+
+/// One byte of a header, of the data or of the filler changed, and put back.
+pub fn compare_damage(rng: &mut Rng) -> Outcome {
+    let mut replays = Replays::new(rng);
+    for case in 0..200 {
+        let log = match case % 40 {
+            0 => long_log(rng),
+            _ => {
+                let records = 1 + rng.below(10);
+                any_log(rng, 4, records, 5)
+            }
+        };
+        let sample = log.sample();
+        replays.put(rng, &sample.bytes);
+        for fragment in some_fragments(rng, &sample) {
+            for (place, byte) in generate::damages(rng, &sample, fragment) {
+                replays.segment.put_at(place, &[byte]);
+                replays.replay(sample.bytes.len())?;
+                replays.segment.put_at(place, &[sample.bytes[place]]);
+            }
+            spoil_data(rng, &mut replays, &sample.bytes, fragment)?;
+        }
+    }
+    Ok(replays.cases)
+}
+
+/// A byte of the data changed, and the sum with it: the fragment is good, the body another one.
+fn spoil_data(
+    rng: &mut Rng,
+    replays: &mut Replays,
+    bytes: &[u8],
+    fragment: Fragment,
+) -> Result<(), String> {
+    let Fragment { start, end, .. } = fragment;
+    let old = &bytes[start..end];
+    for _ in 0..4.min(old.len() - reference::segment::HEADER) {
+        let mut spoilt = old.to_vec();
+        let data = &mut spoilt[reference::segment::HEADER..];
+        let place = rng.below(data.len());
+        data[place] ^= 1 << rng.below(8);
+        generate::make_fragment(&mut spoilt, old[0]);
+        replays.segment.put_at(start, &spoilt);
+        replays.replay(bytes.len())?;
+    }
+    replays.segment.put_at(start, old);
+    Ok(())
+}
+
+/// Random bytes after a good log or after nothing, and foreign segments.
+pub fn compare_bytes(rng: &mut Rng) -> Outcome {
+    let mut replays = Replays::new(rng);
+    let mut noise = Vec::new();
+    for case in 0..60_000 {
+        let mut bytes = match case % 3 {
+            0 => any_log(rng, 3, 3, 3).bytes,
+            _ => Vec::new(),
+        };
+        generate::noise(rng, &mut noise);
+        bytes.extend(&noise);
+        replays.replay_log(rng, &bytes)?;
+    }
+    for _ in 0..1_000 {
+        let splitting = rng.pick(&[Splitting::Short, Splitting::Long]);
+        let sample = generate::foreign_from_0(rng, splitting);
+        replays.replay_log(rng, &sample.bytes)?;
+    }
+    Ok(replays.cases)
+}
+
+/// Record buffers too short or longer than needed, and no segment at all.
+pub fn compare_lengths(rng: &mut Rng) -> Outcome {
+    let mut replays = Replays::new(rng);
+    for _ in 0..2_000 {
+        let log = any_log(rng, 4, 6, 4);
+        replays.put(rng, &log.bytes);
+        for _ in 0..10 {
+            let length = rng.pick(&[0, log.bytes.len()]);
+            replays.replay_into(length, any_buffer(rng))?;
+        }
+    }
+    Ok(replays.cases)
+}

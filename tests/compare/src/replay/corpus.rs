@@ -1,0 +1,87 @@
+//! Logs with records of every type, and real ones.
+
+use super::logs::{series, Log, World};
+use super::Replays;
+use crate::rng::Rng;
+use crate::twin::Twin;
+use crate::Outcome;
+use reference::body;
+use reference::segment::{self, Reading, RECORD_MAX};
+
+/// Few ids, which every record meets again: whole, and cut anywhere.
+pub fn compare_few(rng: &mut Rng) -> Outcome {
+    let mut replays = Replays::new(rng);
+    for _ in 0..16_000 {
+        let count = 1 + rng.below(6);
+        let records = rng.below(30);
+        let log = any_log(rng, count, records, 6);
+        replays.replay_log(rng, &log.bytes)?;
+        replays.replay(rng.below(log.bytes.len() + 1))?;
+    }
+    Ok(replays.cases)
+}
+
+/// Up to 320 ids, entered by and by: some logs bring a 257th, in a record with known ones.
+pub fn compare_many(rng: &mut Rng) -> Outcome {
+    let mut replays = Replays::new(rng);
+    for _ in 0..700 {
+        let count = 20 + rng.below(300);
+        let records = rng.below(200);
+        let log = any_log(rng, count, records, 40);
+        replays.replay_log(rng, &log.bytes)?;
+        replays.replay(rng.below(log.bytes.len() + 1))?;
+    }
+    Ok(replays.cases)
+}
+
+/// So many records about so many ids, each of up to `most` entries. Half of the logs enter some ids
+/// first, so that not all rows are orphans for long; a third splits its records.
+pub fn any_log(rng: &mut Rng, count: usize, records: usize, most: usize) -> Log {
+    let mut world = World::new(rng, count);
+    let mut log = Log::default();
+    if rng.once_in(2) {
+        let entered = rng.below(count + 1).min(200);
+        log.add(&series(&world.ids[..entered]));
+    }
+    let split = rng.once_in(3);
+    for _ in 0..records {
+        let body = world.body(rng, most);
+        if split && rng.once_in(2) {
+            log.add_split(rng, &body);
+        } else {
+            log.add(&body);
+        }
+    }
+    log
+}
+
+/// A real segment, whole and cut anywhere; and what is left of it without the types that stop a
+/// replay.
+pub fn compare_file(rng: &mut Rng, bytes: &[u8]) -> Outcome {
+    let mut cases = 0;
+    for log in [bytes, &known_records(bytes).bytes] {
+        let segment = Twin::new(rng, log.len());
+        let mut replays = Replays::with_segment(rng, segment);
+        replays.replay_log(rng, log)?;
+        for _ in 0..40 {
+            replays.replay(rng.below(log.len() + 1))?;
+        }
+        cases += replays.cases;
+    }
+    Ok(cases)
+}
+
+/// The records with good bodies.
+fn known_records(bytes: &[u8]) -> Log {
+    let mut log = Log::default();
+    let mut buffer = vec![0; RECORD_MAX];
+    let mut place = 0;
+    while let Ok(Reading::Record(record)) = segment::read(bytes, place, &mut buffer) {
+        let body = &buffer[..record.length];
+        if body::check(body).is_ok() {
+            log.add(body);
+        }
+        place = record.after;
+    }
+    log
+}

@@ -1,0 +1,307 @@
+//! Logs to replay: records about few ids and times, so that they meet.
+
+use crate::bodies::{any_number, hand_made, push_padded, KINDS};
+use crate::generate::{make_fragment, Fragment, Sample};
+use crate::rng::Rng;
+use reference::body::{
+    self, NewEntry, SeriesId, Strings, Timestamp, BODY_MAX, EXEMPLARS, METADATA, SAMPLES, SERIES,
+    TOMBSTONES,
+};
+use reference::segment::{left_in_page, FIRST, FULL, HEADER, LAST, MIDDLE};
+use reference::varint;
+
+// ---- Records, one after another ----
+
+/// A log being written.
+#[derive(Default)]
+pub struct Log {
+    pub bytes: Vec<u8>,
+    fragments: Vec<Fragment>,
+}
+
+impl Log {
+    pub fn of(bodies: &[Vec<u8>]) -> Log {
+        let mut log = Log::default();
+        for body in bodies {
+            log.add(body);
+        }
+        log
+    }
+
+    /// Adds a record as our writer splits it.
+    pub fn add(&mut self, record: &[u8]) {
+        self.add_by(record, |most| most);
+    }
+
+    /// Adds a record in short fragments, as no writer of ours splits it.
+    pub fn add_split(&mut self, rng: &mut Rng, record: &[u8]) {
+        self.add_by(record, |most| match rng.below(4) {
+            0 => most,
+            1 => 0,
+            _ => rng.below(most + 1),
+        });
+    }
+
+    /// `pick` says how much of the rest a fragment takes, of at most so much.
+    fn add_by(&mut self, record: &[u8], mut pick: impl FnMut(usize) -> usize) {
+        let mut rest = record;
+        let mut begun = None;
+        loop {
+            let start = self.fill_page_end();
+            let most = rest.len().min(left_in_page(start) - HEADER);
+            let (data, later) = rest.split_at(pick(most));
+            let kind = match (begun.is_none(), later.is_empty()) {
+                (true, true) => FULL,
+                (true, false) => FIRST,
+                (false, false) => MIDDLE,
+                (false, true) => LAST,
+            };
+            self.bytes.extend([0; HEADER]);
+            self.bytes.extend(data);
+            make_fragment(&mut self.bytes[start..], kind);
+            let record = *begun.get_or_insert(start);
+            let end = self.bytes.len();
+            self.fragments.push(Fragment { start, end, record });
+            if later.is_empty() {
+                return;
+            }
+            rest = later;
+        }
+    }
+
+    /// Fills up a page that has no room for a header, and hands back the place.
+    fn fill_page_end(&mut self) -> usize {
+        let left = left_in_page(self.bytes.len());
+        if left < HEADER {
+            self.bytes.resize(self.bytes.len() + left, 0);
+        }
+        self.bytes.len()
+    }
+
+    pub fn sample(self) -> Sample {
+        Sample {
+            bytes: self.bytes,
+            start: 0,
+            fragments: self.fragments,
+        }
+    }
+}
+
+// ---- Bodies ----
+
+pub fn build(kind: u8, entries: &[NewEntry]) -> Vec<u8> {
+    let mut buffer = vec![0; BODY_MAX];
+    let mut state = body::start(&mut buffer, kind).expect("the type is known");
+    for entry in entries {
+        state = body::add(&mut buffer, state, entry).expect("the entries fit");
+    }
+    buffer.truncate(state.used);
+    buffer
+}
+
+/// A series body of these ids, without strings.
+pub fn series(ids: &[u64]) -> Vec<u8> {
+    let entries: Vec<NewEntry> = ids.iter().map(|&id| new_series(id)).collect();
+    build(SERIES, &entries)
+}
+
+fn new_series<'a>(id: u64) -> NewEntry<'a> {
+    let (text, lengths) = (&[], &[]);
+    NewEntry::Series(SeriesId(id), Strings { text, lengths })
+}
+
+/// A samples body of these rows: id, time, bits.
+pub fn samples(rows: &[(u64, i64, u64)]) -> Vec<u8> {
+    let entries: Vec<NewEntry> = rows.iter().map(|&row| new_sample(row)).collect();
+    build(SAMPLES, &entries)
+}
+
+fn new_sample<'a>((id, time, bits): (u64, i64, u64)) -> NewEntry<'a> {
+    NewEntry::Sample(sample((id, time, bits)))
+}
+
+fn sample((id, time, bits): (u64, i64, u64)) -> body::Sample {
+    let (id, time) = (SeriesId(id), Timestamp(time));
+    body::Sample { id, time, bits }
+}
+
+/// A body of tombstones: id, min, max.
+pub fn tombstones(ranges: &[(u64, i64, i64)]) -> Vec<u8> {
+    let entries: Vec<NewEntry> = ranges
+        .iter()
+        .map(|&(id, min, max)| NewEntry::Tombstone(SeriesId(id), Timestamp(min), Timestamp(max)))
+        .collect();
+    build(TOMBSTONES, &entries)
+}
+
+// ---- What the records of one log are about ----
+
+pub struct World {
+    pub ids: Vec<u64>,
+    /// Times that rows had lately.
+    times: [i64; 4],
+}
+
+impl World {
+    /// With so many ids, of which no two are equal.
+    pub fn new(rng: &mut Rng, count: usize) -> World {
+        let ids = some_ids(rng, count);
+        let now = any_number(rng, 1_000) as i64;
+        let times = [now; 4];
+        World { ids, times }
+    }
+
+    /// An id of this log, or now and then one that only looks like it.
+    fn id(&self, rng: &mut Rng) -> u64 {
+        let id = rng.pick(&self.ids);
+        match rng.below(16) {
+            0 => id ^ 1 << rng.below(64),
+            _ => id,
+        }
+    }
+
+    /// Later than a row before as often as not; also equal, earlier, and at the ends of 64 bits.
+    fn time(&mut self, rng: &mut Rng) -> i64 {
+        let before = rng.pick(&self.times);
+        let little = rng.below(3) as i64;
+        let time = match rng.below(32) {
+            0 => rng.pick(&[i64::MIN, i64::MIN + 1, i64::MAX - 1, i64::MAX]),
+            1 | 2 => rng.pick(&[-1, 0, 1]),
+            3 => any_number(rng, 0) as i64,
+            4..=9 => before.wrapping_sub(little),
+            10..=13 => before,
+            _ => before.wrapping_add(little),
+        };
+        self.times[rng.below(4)] = time;
+        time
+    }
+
+    /// What a tombstone covers: a time, or only what is before or after it, or nothing.
+    fn range(&mut self, rng: &mut Rng) -> (i64, i64) {
+        let time = rng.pick(&self.times);
+        let (before, after) = (time.wrapping_sub(1), time.wrapping_add(1));
+        match rng.below(12) {
+            0 | 1 => (time, time),
+            2 => (before, after),
+            3 => (i64::MIN, i64::MAX),
+            4 => (i64::MIN, time),
+            5 => (time, i64::MAX),
+            6 => (i64::MIN, before),
+            7 => (after, i64::MAX),
+            8 => (after, time),
+            9 => (after, before),
+            10 => (i64::MAX, i64::MIN),
+            _ => (any_number(rng, 0) as i64, any_number(rng, 0) as i64),
+        }
+    }
+
+    fn row(&mut self, rng: &mut Rng) -> (u64, i64, u64) {
+        (self.id(rng), self.time(rng), any_number(rng, 0x3FF0 << 48))
+    }
+
+    /// A record's body of any type, with up to `most` entries.
+    pub fn body(&mut self, rng: &mut Rng, most: usize) -> Vec<u8> {
+        let count = rng.below(most + 1);
+        match rng.below(16) {
+            0..=2 => self.series_body(rng, count),
+            3..=8 => samples(&self.list(rng, count, World::row)),
+            9..=11 => tombstones(&self.list(rng, count, World::tombstone)),
+            12 => self.foreign_samples(rng, count),
+            13 | 14 => self.idle_body(rng, count),
+            _ if rng.once_in(4) => hand_made(rng),
+            _ => build(rng.pick(&KINDS), &[]),
+        }
+    }
+
+    fn list<T>(
+        &mut self,
+        rng: &mut Rng,
+        count: usize,
+        one: fn(&mut World, &mut Rng) -> T,
+    ) -> Vec<T> {
+        (0..count).map(|_| one(self, rng)).collect()
+    }
+
+    fn tombstone(&mut self, rng: &mut Rng) -> (u64, i64, i64) {
+        let (min, max) = self.range(rng);
+        (self.id(rng), min, max)
+    }
+
+    /// Ids of this log with strings, the same id now and then twice.
+    fn series_body(&mut self, rng: &mut Rng, count: usize) -> Vec<u8> {
+        let text = rng.bytes(8);
+        let entries: Vec<NewEntry> = (0..count)
+            .map(|_| NewEntry::Series(SeriesId(rng.pick(&self.ids)), some_strings(rng, &text)))
+            .collect();
+        build(SERIES, &entries)
+    }
+
+    /// Exemplars or metadata of the ids of this log, which change nothing.
+    fn idle_body(&mut self, rng: &mut Rng, count: usize) -> Vec<u8> {
+        let text = rng.bytes(8);
+        let kind = rng.pick(&[EXEMPLARS, METADATA]);
+        let entries: Vec<NewEntry> = (0..count)
+            .map(|_| match kind {
+                EXEMPLARS => NewEntry::Exemplar(sample(self.row(rng)), some_strings(rng, &text)),
+                _ => {
+                    let id = SeriesId(self.id(rng));
+                    NewEntry::Metadata(id, rng.byte(), some_strings(rng, &text))
+                }
+            })
+            .collect();
+        build(kind, &entries)
+    }
+
+    /// Rows counted from any first id and time, their varints now and then longer than needed or
+    /// bad: no builder makes them so.
+    fn foreign_samples(&mut self, rng: &mut Rng, count: usize) -> Vec<u8> {
+        let (first_id, first_time) = (any_number(rng, 7), any_number(rng, 1_000) as i64);
+        let mut bytes = vec![SAMPLES];
+        bytes.extend(first_id.to_be_bytes());
+        bytes.extend(first_time.to_be_bytes());
+        for _ in 0..count {
+            let (id, time, bits) = self.row(rng);
+            let deltas = [
+                id.wrapping_sub(first_id) as i64,
+                time.wrapping_sub(first_time),
+            ];
+            for delta in deltas {
+                push_padded(rng, varint::zigzag(delta), &mut bytes);
+            }
+            bytes.extend(bits.to_be_bytes());
+        }
+        bytes
+    }
+}
+
+/// No, one or two pairs of strings, all from the same text of 8 bytes.
+fn some_strings<'a>(rng: &mut Rng, text: &'a [u8]) -> Strings<'a> {
+    let (text, lengths): (_, &[u64]) = match rng.below(4) {
+        0 => (&text[..5], &[2, 3]),
+        1 => (text, &[0, 1, 7, 0]),
+        _ => (&text[..0], &[]),
+    };
+    Strings { text, lengths }
+}
+
+/// Ids in a row up or down, such that share their low bits or their high bits, and any.
+fn some_ids(rng: &mut Rng, count: usize) -> Vec<u64> {
+    let first = any_number(rng, 7);
+    let step = match rng.below(8) {
+        0..=2 => 1,
+        3 => u64::MAX,
+        4 => 1 << (8 + rng.below(8)),
+        5 => 1 << (48 + rng.below(3)),
+        6 => 3,
+        _ => rng.number() | 1,
+    };
+    let mut ids: Vec<u64> = (0..count as u64)
+        .map(|index| first.wrapping_add(index.wrapping_mul(step)))
+        .collect();
+    if rng.once_in(4) {
+        for place in (1..count).rev() {
+            ids.swap(place, rng.below(place + 1));
+        }
+    }
+    ids
+}
