@@ -1,5 +1,5 @@
 -- Laws of the uvarint: its recursion, its length, and that decoding undoes encoding.
-use Prim.Native.Nat.{ℕ, zero, suc, _+_, _*_, _/_, _%_, _^_, _≤_, _<_}
+use Prim.Native.Nat.{ℕ, zero, suc, _+_, _-_, _*_, _/_, _%_, _^_, _≤_, _<_}
 use mathlib.Core.Bool.{Bool, true, false}
 use mathlib.Core.List.{List, [], _∷_, _++_}
 use mathlib.Core.Path.{_≡_, refl, sym, ap, ap₂, _∙_, subst}
@@ -9,6 +9,8 @@ use native.Mathlib.Omega.{arith}
 use borrow.Author.Tests.{lt-ltb, le-ltb, le-leb, ltb-true, ltb-false, leb-true}
 use lib.Dec.{ltb, leb}
 use lib.ListN.{length, getD}
+use lib.Pow.{pow-add, pow-mono, pow-pos}
+use lib.Count.{leadingZeros, leading-top}
 use Rattle.uvarint.specs.declared.UvarintRead.{UvarintRead}
 use Rattle.uvarint.specs.declared.UvarintRead.the-variants.{Value, Short, BadVarint}
 use Rattle.uvarint.specs.Uvarint.{groups, uvarint, after, readGroups, readUvarint}
@@ -46,14 +48,33 @@ length-one n h = ap length (one-group n h)
 pub length-more : (n : ℕ) → 128 ≤ n → length (uvarint n) ≡ suc (length (uvarint (n / 128)))
 length-more n h = ap length (more-groups n h)
 
--- one byte more for each power of 128 that n reaches
-pub length-exact : (k n : ℕ) → 128 ^ suc k ≤ n → n < 128 ^ suc (suc k) → length (uvarint n) ≡ suc (suc k)
-length-exact zero n l h = omega (arith, length-more n (omega arith), length-one (n / 128) (omega arith))
-length-exact (suc k) n l h =
-    let p = pow-suc 128 k in
-    let q = pow-suc 128 (suc k) in
-    let r = pow-suc 128 (suc (suc k)) in
-    omega (arith, length-more n (omega (arith, one-le-pow k 128 (omega arith))), length-exact k (n / 128) (omega arith) (omega arith))
+-- seven more bits
+seven : (k m : ℕ) → k ≡ m + 7 → 2 ^ k ≡ 2 ^ m * 128
+seven k m e = ap (λ (x : ℕ). 2 ^ x) e ∙ pow-add 2 m 7
+
+-- a number whose highest bit is at 7q + r, r below 7, takes q + 1 bytes
+length-top : (q r n : ℕ) → r < 7 → 2 ^ (7 * q + r) ≤ n → n < 2 ^ suc (7 * q + r) → length (uvarint n) ≡ suc q
+length-top zero r n h l u =
+    let p : 2 ^ suc (7 * zero + r) ≤ 2 ^ 7 = pow-mono {j = 7} (omega arith) in
+    length-one n (omega arith)
+length-top (suc q) r n h l u =
+    let e = seven (7 * suc q + r) (7 * q + r) (omega arith) in
+    let f = seven (suc (7 * suc q + r)) (suc (7 * q + r)) (omega arith) in
+    let p = pow-pos (7 * q + r) in
+    length-more n (omega arith) ∙ ap suc (length-top q r (n / 128) h (omega arith) (omega arith))
+
+-- sevenths rounded up are 9/64 and one more, for up to 64 bits
+ninths : (b : ℕ) → 1 ≤ b → b ≤ 64 → (b + 6) / 7 ≡ (b * 9 + 64) / 64
+ninths b l h = omega arith
+
+-- a byte for every seven bits of a number, which are 64 less its leading zeros
+pub length-bits : (n : ℕ) → 0 < n → n < 2 ^ 64 → length (uvarint n) ≡ ((64 - leadingZeros 64 n) * 9 + 64) / 64
+length-bits n p h =
+    let t = leading-top 64 n p h in
+    let e : 7 * (t .0 / 7) + t .0 % 7 ≡ t .0 = omega arith in
+    let g : length (uvarint n) ≡ suc (t .0 / 7) = length-top (t .0 / 7) (t .0 % 7) n (omega arith) (rw e (t .2)) (rw e (t .3)) in
+    let s : length (uvarint n) ≡ (64 - leadingZeros 64 n + 6) / 7 = omega (arith, t .1) in
+    s ∙ ninths (64 - leadingZeros 64 n) (omega (arith, t .1)) (omega arith)
 
 -- a number that f groups and a last byte of 0 or 1 can hold takes at most f bytes and that one
 at-most : (f n : ℕ) → n < 2 * 128 ^ f → length (uvarint n) ≤ suc f

@@ -19,39 +19,20 @@ pub enum UvarintRead {
     BadVarint,
 }
 
-// How many bytes the uvarint of n takes: one more for each seven bits.
+// How many bytes the uvarint of n takes: seven bits each, and one for 0, which has no bit. The bits
+// are 64 less the leading zeros; 9/64 of them, rounded down, and one more are as many bytes as
+// sevenths rounded up, for up to 64 bits, and take no division. Most numbers have one byte: these are
+// told by a comparison.
 pub fn uvarint_len(n: u64) -> usize
     ensures { λ r. ⌜ r ≡ length (uvarint n) ⌝ }
     ensures { λ r. ⌜ (1 ≤ r) × (r ≤ 10) ⌝ }
 {
-    if n < 0x80 {
+    if n < 128 {
         return 1;
     }
-    if n < 0x4000 {
-        return 2;
-    }
-    if n < 0x20_0000 {
-        return 3;
-    }
-    if n < 0x1000_0000 {
-        return 4;
-    }
-    if n < 0x8_0000_0000 {
-        return 5;
-    }
-    if n < 0x400_0000_0000 {
-        return 6;
-    }
-    if n < 0x2_0000_0000_0000 {
-        return 7;
-    }
-    if n < 0x100_0000_0000_0000 {
-        return 8;
-    }
-    if n < 0x8000_0000_0000_0000 {
-        return 9;
-    }
-    10
+    let bits = 64 - u64::leading_zeros(n);
+    let groups = (bits * 9 + 64) / 64;
+    groups as usize
 }
 
 // Encodes n at a place of buf.

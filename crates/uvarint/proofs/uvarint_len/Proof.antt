@@ -1,51 +1,24 @@
--- `uvarint_len` meets its contract: the two tests before each answer are the bounds of one law.
+-- `uvarint_len` meets its contract: one byte, or by the leading zeros.
+use borrow.Author.Needs.{needs}
 use native.Mathlib.Omega.{arith}
 use mathlib.Core.Path.{sym}
-use Rattle.uvarint.specs.UvarintLaws.{length-one, length-exact}
+use Prim.Native.Nat.{ℕ, _+_, _-_, _*_, _/_, _≤_}
+use lib.Count.{leadingZeros, leading-le}
+use Rattle.uvarint.specs.UvarintLaws.{length-one, length-bits}
 use Rattle.uvarint.proofs.uvarint_len.Statement.{statement}
 use Rattle.uvarint.proofs.uvarint_len.Tie as tie
 
+bounds : (b : ℕ) → b ≤ 64 → (1 ≤ (b * 9 + 64) / 64) × ((b * 9 + 64) / 64 ≤ 10)
+bounds b h = (omega arith, omega arith)
+
 returns : tie.Need-returns
-returns c = (sym (length-one _ (omega arith)), omega arith)
+returns c = (sym (length-one _ (c .if1 .taken)), omega arith)
+
+sub-bits : tie.Need-sub-bits
+sub-bits c = leading-le 64 (c .before .args .n)
 
 returns-2 : tie.Need-returns-2
-returns-2 c = (sym (length-exact 0 _ (omega arith) (omega arith)), omega arith)
-
-returns-3 : tie.Need-returns-3
-returns-3 c = (sym (length-exact 1 _ (omega arith) (omega arith)), omega arith)
-
-returns-4 : tie.Need-returns-4
-returns-4 c = (sym (length-exact 2 _ (omega arith) (omega arith)), omega arith)
-
-returns-5 : tie.Need-returns-5
-returns-5 c = (sym (length-exact 3 _ (omega arith) (omega arith)), omega arith)
-
-returns-6 : tie.Need-returns-6
-returns-6 c = (sym (length-exact 4 _ (omega arith) (omega arith)), omega arith)
-
-returns-7 : tie.Need-returns-7
-returns-7 c = (sym (length-exact 5 _ (omega arith) (omega arith)), omega arith)
-
-returns-8 : tie.Need-returns-8
-returns-8 c = (sym (length-exact 6 _ (omega arith) (omega arith)), omega arith)
-
-returns-9 : tie.Need-returns-9
-returns-9 c = (sym (length-exact 7 _ (omega arith) (omega arith)), omega arith)
-
-returns-10 : tie.Need-returns-10
-returns-10 c = (sym (length-exact 8 _ (omega arith) (omega arith)), omega arith)
+returns-2 c = (sym (length-bits (c .before .args .n) (omega arith) (c .before .fits .n .fits)), bounds (64 - leadingZeros 64 (c .before .args .n)) (omega arith))
 
 pub uvarint-len-spec : {M : Type 1} → statement M
-uvarint-len-spec =
-    tie.close
-    (tie.spec
-    returns
-    returns-2
-    returns-3
-    returns-4
-    returns-5
-    returns-6
-    returns-7
-    returns-8
-    returns-9
-    returns-10)
+uvarint-len-spec = tie.close (tie.spec returns sub-bits (λ c. search needs) (λ c. search needs) (λ c. search needs) returns-2)
