@@ -7,6 +7,7 @@ use crate::bodies;
 use crate::generate::{self, any_buffer, some_fragments, Fragment, Splitting};
 use crate::rng::Rng;
 use crate::Outcome;
+use reference::segment::{HEADER, PAGE};
 
 // ---- Bodies ----
 
@@ -98,13 +99,12 @@ pub fn compare_cuts(rng: &mut Rng) -> Outcome {
     Ok(replays.cases)
 }
 
-/// A log of two to four pages with records that go from one page to the next.
+/// A log of at least three pages, with records that go from one page to the next.
 fn long_log(rng: &mut Rng) -> Log {
     let mut world = World::new(rng, 100);
     let mut log = Log::of(&[series(&world.ids)]);
-    let end = generate::PAGES_MAX * 20_000;
-    while log.bytes.len() < end {
-        let most = rng.pick(&[10, 300, 2_000]);
+    while log.bytes.len() < 3 * PAGE {
+        let most = rng.pick(&[10, 300, 1_500]);
         let body = world.body(rng, most);
         log.add(&body);
     }
@@ -145,9 +145,9 @@ fn spoil_data(
 ) -> Result<(), String> {
     let Fragment { start, end, .. } = fragment;
     let old = &bytes[start..end];
-    for _ in 0..4.min(old.len() - reference::segment::HEADER) {
+    for _ in 0..4.min(old.len() - HEADER) {
         let mut spoilt = old.to_vec();
-        let data = &mut spoilt[reference::segment::HEADER..];
+        let data = &mut spoilt[HEADER..];
         let place = rng.below(data.len());
         data[place] ^= 1 << rng.below(8);
         generate::make_fragment(&mut spoilt, old[0]);

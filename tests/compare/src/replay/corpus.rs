@@ -21,11 +21,11 @@ pub fn compare_few(rng: &mut Rng) -> Outcome {
     Ok(replays.cases)
 }
 
-/// Up to 320 ids, entered by and by: some logs bring a 257th, in a record with known ones.
+/// Up to 340 ids, entered by and by: many logs bring a 257th, in a record with known ones.
 pub fn compare_many(rng: &mut Rng) -> Outcome {
     let mut replays = Replays::new(rng);
     for _ in 0..700 {
-        let count = 20 + rng.below(300);
+        let count = rng.pick(&[20, 240, 280]) + rng.below(60);
         let records = rng.below(200);
         let log = any_log(rng, count, records, 40);
         replays.replay_log(rng, &log.bytes)?;
@@ -40,7 +40,7 @@ pub fn any_log(rng: &mut Rng, count: usize, records: usize, most: usize) -> Log 
     let mut world = World::new(rng, count);
     let mut log = Log::default();
     if rng.once_in(2) {
-        let entered = rng.below(count + 1).min(200);
+        let entered = rng.below(count + 1).min(256);
         log.add(&series(&world.ids[..entered]));
     }
     let split = rng.once_in(3);

@@ -199,17 +199,18 @@ impl World {
         (self.id(rng), self.time(rng), any_number(rng, 0x3FF0 << 48))
     }
 
-    /// A record's body of any type, with up to `most` entries.
+    /// A record's body of any type, with up to `most` entries. One that is refused stops a replay,
+    /// so the kinds that may be are rare.
     pub fn body(&mut self, rng: &mut Rng, most: usize) -> Vec<u8> {
         let count = rng.below(most + 1);
-        match rng.below(16) {
-            0..=2 => self.series_body(rng, count),
-            3..=8 => samples(&self.list(rng, count, World::row)),
-            9..=11 => tombstones(&self.list(rng, count, World::tombstone)),
-            12 => self.foreign_samples(rng, count),
-            13 | 14 => self.idle_body(rng, count),
-            _ if rng.once_in(4) => hand_made(rng),
-            _ => build(rng.pick(&KINDS), &[]),
+        match rng.below(64) {
+            0..=13 => self.series_body(rng, count),
+            14..=37 => samples(&self.list(rng, count, World::row)),
+            38..=49 => tombstones(&self.list(rng, count, World::tombstone)),
+            50..=57 => self.idle_body(rng, count),
+            58..=60 => build(rng.pick(&KINDS), &[]),
+            61 | 62 => self.foreign_samples(rng, count.min(4)),
+            _ => hand_made(rng),
         }
     }
 
