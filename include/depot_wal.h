@@ -1,7 +1,7 @@
 /* A proved write-ahead log in the Prometheus format, for programs in C (docs/CLAIMS.md says what is
  * proved).
  *
- * A segment is a caller-owned buffer. Records of 0 to 65,536 bytes are written into it and read
+ * A segment is a caller-owned buffer. Records of 1 to 65,536 bytes are written into it and read
  * back, five types of record bodies are encoded and decoded, and a log is replayed into a table of
  * what each series had last. docs/FORMAT.md draws the bytes; examples/switch.c is a whole program.
  * The archive is for Linux on x86-64; beside the caller's memory it needs `memset` and `memcpy`.
@@ -82,6 +82,19 @@
  *   not the size of a file that was made long beforehand. The library does no I/O: a record is safe
  *   once the caller has flushed it.
  *
+ * A file that is mapped, or was made long beforehand
+ *   It is zero where nothing was stored yet. If the program is killed, or the power fails, in the
+ *   middle of a write there, some bytes of the record are stored, in any order, and zeros are in
+ *   place of the others. Read with the size of the file as segment_len:
+ *   - To be expected: every record before that one, where its bytes are on the medium, and no empty
+ *     record. Where the bytes were stored in order up to a type byte, no record beyond them either:
+ *     zeros after a type byte are never read as a record or as the end of one (DEPOT_WAL_HOLLOW).
+ *   - Not to be expected: DEPOT_WAL_TORN, or a place to resume at. The record in question gives
+ *     DEPOT_WAL_HOLLOW, DEPOT_WAL_BAD_SUM, DEPOT_WAL_OUT_OF_ORDER or another error, or, if its type
+ *     byte was not stored, DEPOT_WAL_END. Data of which a part was stored is noticed by its
+ *     checksum alone. The number of flushed bytes, kept elsewhere and passed as segment_len, gives
+ *     the promise of the section before.
+ *
  * Resuming after a power failure (examples/switch.c does it)
  *   Read from place 0 until a read does not return DEPOT_WAL_DONE. It returns
  *   DEPOT_WAL_TORN  Resume writing at the place of the error, over the truncated record. Truncate
@@ -149,6 +162,7 @@ enum {
     DEPOT_WAL_BAD_SUM = 10,      /* the checksum differs */
     DEPOT_WAL_NO_ROOM = 11,      /* it does not fit into what is left */
     DEPOT_WAL_TORN = 12,         /* the bytes end inside a record */
+    DEPOT_WAL_HOLLOW = 13,       /* a record without any byte, or a last fragment without data */
     DEPOT_WAL_UNKNOWN_TYPE = 20, /* a body type that is not in enum depot_wal_type */
     DEPOT_WAL_EMPTY_BODY = 21,   /* a body without any byte */
     DEPOT_WAL_SHORT = 22,        /* the body ends inside a field */
@@ -178,6 +192,7 @@ static inline const char *depot_wal_status_text(depot_wal_status status)
     case DEPOT_WAL_BAD_SUM: return "corrupt: checksum mismatch";
     case DEPOT_WAL_NO_ROOM: return "no room left in the segment or buffer";
     case DEPOT_WAL_TORN: return "record truncated, as by a power failure";
+    case DEPOT_WAL_HOLLOW: return "record without any byte, or zeros where one was cut off";
     case DEPOT_WAL_UNKNOWN_TYPE: return "unknown type of record body";
     case DEPOT_WAL_EMPTY_BODY: return "record body without any byte";
     case DEPOT_WAL_SHORT: return "body truncated inside a field";
@@ -275,6 +290,7 @@ typedef char depot_wal_layout[
  *   DEPOT_WAL_BAD_BUFFER  0      the segment is not one or more whole pages, or is above
  *                                DEPOT_WAL_SEGMENT_MAX
  *   DEPOT_WAL_BAD_PLACE   0      `place` is past the segment or has 1 to 6 bytes left in its page
+ *   DEPOT_WAL_HOLLOW      place  record_len is 0
  *   DEPOT_WAL_TOO_LONG    place  the record is above DEPOT_WAL_RECORD_MAX
  *   DEPOT_WAL_NO_ROOM     place  the record does not fit, or `place` is the segment's end
  * Changes: the segment's bytes from `place` to the new `next`, and *out. */
@@ -298,6 +314,7 @@ depot_wal_status depot_wal_write(uint8_t *segment, size_t segment_len, size_t pl
  *   DEPOT_WAL_OUT_OF_ORDER  type byte  kind 3 or 4 with no record begun; 0, 1 or 2 inside one
  *   DEPOT_WAL_NOT_ZERO      that byte  kind 0, and the rest of the page is not zero
  *   DEPOT_WAL_TORN          record     the bytes end inside the header
+ *   DEPOT_WAL_HOLLOW        type byte  kind 1 or 4, and the length is 0
  *   DEPOT_WAL_PAST_PAGE     type byte  the length goes beyond the page
  *   DEPOT_WAL_TOO_LONG      type byte  the record would be above DEPOT_WAL_RECORD_MAX
  *   DEPOT_WAL_TORN          record     the bytes end inside the data

@@ -133,8 +133,8 @@ static void layouts(void)
 static void texts(void)
 {
     static const depot_wal_status known[] = {0,  1,  2,  3,  4,  5,  6,  7,  8,  9,  10,
-                                             11, 12, 20, 21, 22, 23, 24, 25, 26, 28, 200, 201};
-    static const depot_wal_status unknown[] = {13, 19, 27, 29, 199, 202, UINT32_MAX};
+                                             11, 12, 13, 20, 21, 22, 23, 24, 25, 26, 28, 200, 201};
+    static const depot_wal_status unknown[] = {14, 19, 27, 29, 199, 202, UINT32_MAX};
     for (size_t i = 0; i < sizeof known / sizeof *known; i++) {
         const char *text = depot_wal_status_text(known[i]);
         int own = strcmp(text, "unknown status") != 0;
@@ -323,24 +323,39 @@ static void the_switch(void)
           all(segment + 44, PAGE - 44, 0xAA));
 }
 
-/* Two empty records, the second passed as NULL. */
-static void empty_records(void)
-{
-    memset(segment, 0xAA, sizeof segment);
-    writes(__LINE__, PAGE, 0, 0, 7);
-    CHECK(same(segment, 7, "01 00 00 00 00 00 00"));
-    CHECK(GIVES(depot_wal_write(segment, PAGE, 7, NULL, 0, &out->written), DONE,
-                WRITTEN(.next = 14)));
-    CHECK(same(segment + 7, 7, "01 00 00 00 00 00 00"));
-    reads(__LINE__, 14, 0, 0, 0, 7);
-    reads(__LINE__, 14, 7, 7, 0, 14);
-    reads_none(__LINE__, segment, 14, 14, DEPOT_WAL_END, 0);
-}
-
 static void fill_record(void)
 {
     for (size_t i = 0; i < sizeof record; i++)
         record[i] = (uint8_t)(i % 251 + 1);
+}
+
+/* An empty record is not written, and the zeros of one that was cut off are not read. */
+static void hollow_records(void)
+{
+    memset(segment, 0xAA, sizeof segment);
+    write_fails(__LINE__, PAGE, 0, 0, DEPOT_WAL_HOLLOW, 0);
+    write_fails(__LINE__, PAGE, 51, 0, DEPOT_WAL_HOLLOW, 51);
+    write_fails(__LINE__, PAGE, PAGE - 7, 0, DEPOT_WAL_HOLLOW, PAGE - 7);
+    CHECK(GIVES(depot_wal_write(segment, PAGE, 7, NULL, 0, &out->written), DEPOT_WAL_HOLLOW,
+                WRITTEN(.next = 7, .error_at = 7)));
+    CHECK(all(segment, sizeof segment, 0xAA));
+
+    /* The second record is cut off after its type byte, and zeros follow: none, some, a page. */
+    fill_record();
+    writes(__LINE__, PAGE, 0, 37, 44);
+    writes(__LINE__, PAGE, 44, 5, 56);
+    memset(segment + 45, 0, sizeof segment - 45);
+    reads(__LINE__, 45, 0, 0, 37, 44);
+    for (size_t n = 45; n < 51; n++)
+        reads_none(__LINE__, segment, n, 44, DEPOT_WAL_TORN, 44);
+    reads_none(__LINE__, segment, 51, 44, DEPOT_WAL_HOLLOW, 44);
+    reads_none(__LINE__, segment, 2 * PAGE, 44, DEPOT_WAL_HOLLOW, 44);
+
+    /* So is the last fragment of one that fills a page. */
+    writes(__LINE__, 2 * PAGE, 0, 32762, 32776);
+    memset(segment + PAGE + 1, 0, PAGE);
+    reads_none(__LINE__, segment, PAGE + 6, 0, DEPOT_WAL_TORN, 0);
+    reads_none(__LINE__, segment, PAGE + 7, 0, DEPOT_WAL_HOLLOW, PAGE);
 }
 
 /* "From a fresh page": what is left of the page decides how the record is split and where the next
@@ -395,10 +410,10 @@ static void longest_records(void)
     write_fails(__LINE__, 2 * PAGE, 0, 65523, DEPOT_WAL_NO_ROOM, 0);
     writes(__LINE__, 2 * PAGE, 0, 65522, 65536);
     reads(__LINE__, 65536, 0, 0, 65522, 65536);
-    write_fails(__LINE__, 2 * PAGE, 65536, 0, DEPOT_WAL_NO_ROOM, 65536);
+    write_fails(__LINE__, 2 * PAGE, 65536, 1, DEPOT_WAL_NO_ROOM, 65536);
 }
 
-/* The errors of a write: BAD_BUFFER, BAD_PLACE, TOO_LONG, NO_ROOM in this order. */
+/* The errors of a write: BAD_BUFFER, BAD_PLACE, HOLLOW, TOO_LONG, NO_ROOM in this order. */
 static void write_errors(void)
 {
     fill_record();
@@ -415,19 +430,21 @@ static void write_errors(void)
     write_fails(__LINE__, PAGE, SIZE_MAX, 1, DEPOT_WAL_BAD_PLACE, 0);
     for (size_t left = 1; left <= 6; left++) {
         write_fails(__LINE__, 2 * PAGE, PAGE - left, 1, DEPOT_WAL_BAD_PLACE, 0);
+        write_fails(__LINE__, 2 * PAGE, PAGE - left, 0, DEPOT_WAL_BAD_PLACE, 0);
         write_fails(__LINE__, 2 * PAGE, 2 * PAGE - left, 65537, DEPOT_WAL_BAD_PLACE, 0);
     }
     write_fails(__LINE__, PAGE, 44, 65537, DEPOT_WAL_TOO_LONG, 44);
     write_fails(__LINE__, PAGE, PAGE, 65537, DEPOT_WAL_TOO_LONG, PAGE); /* before NO_ROOM */
-    write_fails(__LINE__, PAGE, PAGE, 0, DEPOT_WAL_NO_ROOM, PAGE);
+    write_fails(__LINE__, PAGE, PAGE, 0, DEPOT_WAL_HOLLOW, PAGE); /* before NO_ROOM too */
+    write_fails(__LINE__, PAGE, PAGE, 1, DEPOT_WAL_NO_ROOM, PAGE);
     write_fails(__LINE__, PAGE, PAGE - 7, 1, DEPOT_WAL_NO_ROOM, PAGE - 7);
-    writes(__LINE__, PAGE, PAGE - 7, 0, PAGE); /* an empty record fits there */
+    writes(__LINE__, PAGE, PAGE - 8, 1, PAGE); /* one byte fits there */
     write_fails(__LINE__, PAGE, 10, 32752, DEPOT_WAL_NO_ROOM, 10);
     writes(__LINE__, PAGE, 10, 32751, PAGE);
-    CHECK(GIVES(depot_wal_write(huge, LIMIT, LIMIT - 7, record, 0, &out->written), DONE,
+    CHECK(GIVES(depot_wal_write(huge, LIMIT, LIMIT - 8, record, 1, &out->written), DONE,
                 WRITTEN(.next = LIMIT))); /* the limit itself is good */
-    CHECK(GIVES(depot_wal_read(huge, LIMIT, LIMIT - 7, buffer, sizeof buffer, &out->record), DONE,
-                RECORD(.start = LIMIT - 7, .length = 0, .next = LIMIT)));
+    CHECK(GIVES(depot_wal_read(huge, LIMIT, LIMIT - 8, buffer, sizeof buffer, &out->record), DONE,
+                RECORD(.start = LIMIT - 8, .length = 1, .next = LIMIT)));
     reads_none(__LINE__, huge, LIMIT, LIMIT, DEPOT_WAL_END, 0);
     reads_none(__LINE__, huge, LIMIT + 1, LIMIT, DEPOT_WAL_BAD_BUFFER, 0);
 }
@@ -465,6 +482,12 @@ static void corrupt_bytes(void)
     bytes_give(__LINE__, "01", DEPOT_WAL_TORN, 0);
     bytes_give(__LINE__, "00", DEPOT_WAL_END, 0);
     bytes_give(__LINE__, "00 00 00 00 00 00 00 00 00 03 00", DEPOT_WAL_NOT_ZERO, 9);
+    bytes_give(__LINE__, "01 00 00 00 00 00", DEPOT_WAL_TORN, 0); /* before the length is read */
+    bytes_give(__LINE__, "01 00 00 00 00 00 00", DEPOT_WAL_HOLLOW, 0);
+    bytes_give(__LINE__, "01 00 00 FF FF FF FF", DEPOT_WAL_HOLLOW, 0); /* before BAD_SUM */
+    bytes_give(__LINE__, "02 00 00 00 00 00 00  04 00 00 00 00 00 00", DEPOT_WAL_HOLLOW, 7);
+    bytes_give(__LINE__, "02 00 00 00 00 00 00  03 00 00 00 00 00 00", DEPOT_WAL_TORN, 0);
+    bytes_give(__LINE__, "02 00 00 FF FF FF FF", DEPOT_WAL_BAD_SUM, 0);
     bytes_give(__LINE__, "01 7F FA 00 00 00 00", DEPOT_WAL_PAST_PAGE, 0); /* 32,762 bytes of data */
     bytes_give(__LINE__, "01 7F F9 00 00 00 00", DEPOT_WAL_TORN, 0);
     put(segment, "01 00 00 00 00 00 00  01 7F F3 00 00 00 00"); /* 32,755 where 32,754 fit */
@@ -487,31 +510,34 @@ static void foreign_bytes(void)
 
     /* A page of zeros is passed over; padding that is not zero is not. */
     memset(segment, 0, sizeof segment);
-    put(segment + PAGE, "01 00 00 00 00 00 00");
-    reads(__LINE__, PAGE + 7, 0, PAGE, 0, PAGE + 7);
+    put(segment + PAGE, "01 00 01 00000000 00");
+    for (int i = 0; i < 4; i++)
+        segment[PAGE + 3 + i] = (uint8_t)(sum >> (24 - 8 * i));
+    reads(__LINE__, PAGE + 8, 0, PAGE, 1, PAGE + 8);
     segment[PAGE - 2] = 1;
-    reads_none(__LINE__, segment, PAGE + 7, PAGE - 6, DEPOT_WAL_NOT_ZERO, PAGE - 2);
-    reads_none(__LINE__, segment, PAGE + 7, 0, DEPOT_WAL_NOT_ZERO, PAGE - 2);
+    reads_none(__LINE__, segment, PAGE + 8, PAGE - 6, DEPOT_WAL_NOT_ZERO, PAGE - 2);
+    reads_none(__LINE__, segment, PAGE + 8, 0, DEPOT_WAL_NOT_ZERO, PAGE - 2);
 }
 
 /* Several writes, some with an error, each at the `next` of the one before; then the power fails at
  * every byte. */
 static void several_records(void)
 {
-    static const size_t tried[] = {37, 65537, 0, 5, 65536, 100}; /* errors: second and fifth */
-    static const size_t written[] = {37, 0, 5, 100};
-    static const size_t starts_at[] = {0, 44, 51, 63, 170}; /* the last is the final place */
+    static const size_t tried[] = {37, 65537, 0, 5, 65536, 100}; /* errors: all but 37, 5, 100 */
+    static const depot_wal_status status[] = {DONE, DEPOT_WAL_TOO_LONG, DEPOT_WAL_HOLLOW,
+                                              DONE, DEPOT_WAL_NO_ROOM,  DONE};
+    static const size_t written[] = {37, 5, 100};
+    static const size_t starts_at[] = {0, 44, 56, 163}; /* the last is the final place */
     size_t place = 0;
     fill_record();
     for (size_t i = 0; i < 6; i++) {
-        depot_wal_status status = write_by(PLAIN, PAGE, place, tried[i]);
-        CHECK(status == (i == 1 ? DEPOT_WAL_TOO_LONG : i == 4 ? DEPOT_WAL_NO_ROOM : DONE));
+        CHECK(write_by(PLAIN, PAGE, place, tried[i]) == status[i]);
         place = out->written.next;
     }
-    CHECK(place == 170);
+    CHECK(place == 163);
     for (size_t cut = 0; cut <= place; cut++) {
         size_t k = 0; /* records that lie wholly before the cut */
-        for (; k < 4 && starts_at[k + 1] <= cut; k++)
+        for (; k < 3 && starts_at[k + 1] <= cut; k++)
             reads(__LINE__, cut, starts_at[k], starts_at[k], written[k], starts_at[k + 1]);
         if (starts_at[k] < cut)
             reads_none(__LINE__, segment, cut, starts_at[k], DEPOT_WAL_TORN, starts_at[k]);
@@ -637,6 +663,18 @@ static void feed_order(void)
     feed_stays(__LINE__, segment + PAGE, PAGE, DEPOT_WAL_BAD_SUM, PAGE);
     feed_fails(__LINE__, segment, PAGE, DEPOT_WAL_BAD_SUM, PAGE);
     feed_fails(__LINE__, segment, PAGE + 1, DEPOT_WAL_BAD_SUM, PAGE);
+
+    /* It is a last one without data. */
+    put(segment + PAGE, "04 00 00");
+    memset(buffer, 0x5C, sizeof buffer);
+    feed_starts();
+    feeds(__LINE__, segment, PAGE);
+    feed_stops(__LINE__, segment, PAGE, DEPOT_WAL_MORE, 0);
+    feeds(__LINE__, segment + PAGE, PAGE);
+    feed_stops(__LINE__, segment + PAGE, PAGE, DEPOT_WAL_HOLLOW, PAGE);
+    CHECK(holds(32761));
+    feed_stays(__LINE__, segment + PAGE, PAGE, DEPOT_WAL_HOLLOW, PAGE);
+    feed_fails(__LINE__, segment, PAGE, DEPOT_WAL_HOLLOW, PAGE);
 }
 
 /* The limit of a segment, and states that no call leaves. */
@@ -658,6 +696,13 @@ static void feed_limits(void)
     feed_stays(__LINE__, segment, PAGE, DEPOT_WAL_BAD_PLACE, 0);
     CHECK(GIVES(depot_wal_feed_read(state, NULL, 0, NULL, 0, &out->record), DEPOT_WAL_BAD_PLACE,
                 RECORD(.start = 0)));
+    for (uint64_t number = 11; number <= 14; number++) { /* of these only 13 can stand */
+        memset(state, 0, 8 * DEPOT_WAL_FEED_LEN);
+        state[3] = 8 * number;
+        state[6] = 5;
+        feed_fails(__LINE__, segment, PAGE, number == 13 ? DEPOT_WAL_HOLLOW : DEPOT_WAL_BAD_PLACE,
+                   number == 13 ? 5 : 0);
+    }
 }
 
 /* The first n bytes of `segment` by the feed: the same results as by reads of the slice. */
@@ -687,7 +732,7 @@ static void feed_as_slice(size_t n)
 /* Records of many lengths, cut at many places, whole and corrupt. */
 static void feed_cuts(void)
 {
-    static const size_t sizes[] = {37, 0, 32761, 1, 20000, 12754, 7, 32762, 100};
+    static const size_t sizes[] = {37, 2, 32761, 1, 20000, 12754, 7, 32762, 100};
     size_t place = 0, i = 0;
     fill_record();
     memset(segment, 0, sizeof segment);
@@ -1203,8 +1248,7 @@ static void replay_errors(void)
     static const struct {
         const char *body;
         depot_wal_status status;
-    } faults[] = {{"", DEPOT_WAL_EMPTY_BODY},
-                  {"05", DEPOT_WAL_UNKNOWN_TYPE},
+    } faults[] = {{"05", DEPOT_WAL_UNKNOWN_TYPE},
                   {"01 0000000000000009 00  00", DEPOT_WAL_SHORT},
                   {"06 FFFFFFFFFFFFFFFFFF02", DEPOT_WAL_BAD_VARINT}};
     static struct depot_wal_series rows[DEPOT_WAL_SERIES_MAX];
@@ -1233,6 +1277,8 @@ static void replay_errors(void)
     log_len++;
     segment[log_len - 1] ^= 1;
     replays(__LINE__, DEPOT_WAL_BAD_SUM, at, 0, SERIES({.id = 7}));
+    put(segment + at, "01 00 00");
+    replays(__LINE__, DEPOT_WAL_HOLLOW, at, 0, SERIES({.id = 7}));
 
     /* BAD_BUFFER, before all else. */
     memset(rows, PATTERN, sizeof rows);
@@ -1255,7 +1301,7 @@ int main(int argc, char **argv)
     version();
     checksums();
     the_switch();
-    empty_records();
+    hollow_records();
     fresh_pages();
     longest_records();
     write_errors();

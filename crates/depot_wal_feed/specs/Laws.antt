@@ -3,12 +3,12 @@
 use mathlib.Core.Path.{_≡_, sym, ap, _∙_}
 use mathlib.Core.Bool.{true, false}
 use mathlib.Core.List.{List, [], _∷_}
-use Prim.Native.Nat.{ℕ, _≤_, _<_}
+use Prim.Native.Nat.{ℕ, _/_, _≤_, _<_}
 use native.Mathlib.Omega.{arith}
-use borrow.Author.Tests.{le-leb, lt-leb, le-ltb, lt-ltb}
+use borrow.Author.Tests.{le-leb, lt-leb, le-ltb, lt-ltb, ne-eqb}
 use lib.ListN.{getD, set}
 use lib.Seq.{set-getD}
-use lib.Dec.{ltb, eqb}
+use lib.Dec.{eqb}
 use Rattle.feed_format.specs.declared.FeedState.{FeedState}
 use Rattle.feed_format.specs.declared.Fed.{Fed}
 use Rattle.feed_format.specs.declared.FeedRead.{FeedRead}
@@ -29,12 +29,17 @@ module _ (s : List ℕ) where
   -- 1 and 2 cannot stand
   pub low-unknown : 8 ≤ getD s 3 0 → getD s 3 0 < 24 → known s ≡ false
   unfolding known
-  low-unknown h k = rw (le-ltb (getD s 3 0) 8 h, lt-leb 24 (getD s 3 0) k)
+  low-unknown h k = rw (le-ltb (getD s 3 0) 8 h, lt-leb 24 (getD s 3 0) k, ne-eqb (getD s 3 0 / 8) 13 (λ e. omega arith))
 
-  -- of the others 3 to 10 can
-  pub firm-known : 24 ≤ getD s 3 0 → known s ≡ ltb (getD s 3 0) 88
+  -- 3 to 10 can
+  pub firm-known : 24 ≤ getD s 3 0 → getD s 3 0 < 88 → known s ≡ true
   unfolding known
-  firm-known k = rw (le-ltb (getD s 3 0) 8 (omega arith), le-leb 24 (getD s 3 0) k)
+  firm-known h k = rw (le-ltb (getD s 3 0) 8 (omega arith), le-leb 24 (getD s 3 0) h, lt-ltb (getD s 3 0) 88 k)
+
+  -- of the others 13 can
+  pub hollow-known : 88 ≤ getD s 3 0 → known s ≡ eqb (getD s 3 0 / 8) 13
+  unfolding known
+  hollow-known k = rw (le-ltb (getD s 3 0) 8 (omega arith), le-leb 24 (getD s 3 0) (omega arith), le-ltb (getD s 3 0) 88 k)
 
 -- ---- the calls
 

@@ -22,6 +22,7 @@ fn standing_of(number: u64, place: u64) -> Standing
         8 => Standing::Stands(Refusal::PastPage(at)),
         9 => Standing::Stands(Refusal::TooLong(at)),
         10 => Standing::Stands(Refusal::BadSum(at)),
+        13 => Standing::Stands(Refusal::Hollow(at)),
         _ => Standing::Clear,
     }
 }
@@ -37,7 +38,10 @@ pub(crate) fn is_known(state: &[u64; 16]) -> bool
     if marks < 24 {
         return false;
     }
-    marks < 88
+    if marks < 88 {
+        return true;
+    }
+    marks / 8 == 13
 }
 
 // The state that the numbers are.

@@ -1,7 +1,7 @@
 // Writes eight records into a segment of four pages and reads them with the cursor: once the whole
 // segment, and once its first 100,000 bytes, which end in the last fragment of the sixth record.
 //
-// The records have 0, 1, 37, 32698, 32754, 40000, 25508 and 0 bytes; byte i of a record is i modulo
+// The records have 1, 1, 37, 32697, 32754, 40000, 25507 and 1 bytes; byte i of a record is i modulo
 // 256. Each is written at the place that the write before returned. After the fourth 4 bytes are
 // left in its page, which are filler; after the fifth 7, so the sixth begins with a fragment of
 // length 0; and the last ends where the segment ends.
@@ -21,7 +21,7 @@ use wal_types::Offset;
 
 const RECORDS: usize = 8;
 
-const LENGTHS: [usize; 8] = [0, 1, 37, 32698, 32754, 40000, 25508, 0];
+const LENGTHS: [usize; 8] = [1, 1, 37, 32697, 32754, 40000, 25507, 1];
 
 // One read for each record, one that finds no more, and one that answers the same again.
 const READS: usize = 10;

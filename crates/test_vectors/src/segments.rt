@@ -9,7 +9,7 @@ use segment_format::WriteAnswer;
 use wal_types::Offset;
 use wal_types::Refusal;
 
-// ---- writes
+// ---- writes; a record of 0 bytes is Hollow (FORMAT 5.1)
 
 pub(crate) fn writes() {
     one_page();

@@ -39,21 +39,26 @@ returns-8 c = rw (c .match .keys8)
 
 returns-9 : tie.Need-returns-9
 unfolding standingOf
-returns-9 c =
+returns-9 c = rw (c .match .keys9)
+
+returns-10 : tie.Need-returns-10
+unfolding standingOf
+returns-10 c =
     let n = c .before .args .number in
     let r = c .match .rest in
     rw (
-      ne-eqb n 3 (r .0 .0 .0 .0 .0 .0 .0 .1),
-      ne-eqb n 4 (r .0 .0 .0 .0 .0 .0 .1),
-      ne-eqb n 5 (r .0 .0 .0 .0 .0 .1),
-      ne-eqb n 6 (r .0 .0 .0 .0 .1),
-      ne-eqb n 7 (r .0 .0 .0 .1),
-      ne-eqb n 8 (r .0 .0 .1),
-      ne-eqb n 9 (r .0 .1),
-      ne-eqb n 10 (r .1),
+      ne-eqb n 3 (r .0 .0 .0 .0 .0 .0 .0 .0 .1),
+      ne-eqb n 4 (r .0 .0 .0 .0 .0 .0 .0 .1),
+      ne-eqb n 5 (r .0 .0 .0 .0 .0 .0 .1),
+      ne-eqb n 6 (r .0 .0 .0 .0 .0 .1),
+      ne-eqb n 7 (r .0 .0 .0 .0 .1),
+      ne-eqb n 8 (r .0 .0 .0 .1),
+      ne-eqb n 9 (r .0 .0 .1),
+      ne-eqb n 10 (r .0 .1),
+      ne-eqb n 13 (r .1),
     )
 
 pub standing-of-spec : {M : Type 1} → statement M
 standing-of-spec =
     tie.close
-    (tie.spec returns returns-2 returns-3 returns-4 returns-5 returns-6 returns-7 returns-8 returns-9)
+    (tie.spec returns returns-2 returns-3 returns-4 returns-5 returns-6 returns-7 returns-8 returns-9 returns-10)
