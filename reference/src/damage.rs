@@ -65,7 +65,7 @@ mod tests {
 
     #[test]
     fn a_right_answer_stays() {
-        let case = "EmptyRecord; record 0 0 -; clean 1; 01 00*6\n";
+        let case = "HollowRecord; refused 13 0 0; 01 00*6\n";
         assert_eq!(
             text(&format!("# comment\n{case}#\n{case}")),
             Ok(case.repeat(2))
@@ -77,7 +77,7 @@ mod tests {
         let own = "Torn; torn 0 0; 01\n";
         assert_eq!(text("Torn; clean 0; 01\n"), Ok(own.to_string()));
         assert_eq!(
-            text("Torn; record 0 0 -; clean 1; 01\n"),
+            text("Torn; record 0 1 7; clean 1; 01\n"),
             Ok(own.to_string())
         );
     }

@@ -83,13 +83,10 @@ fn fill(page: &mut [u8], input: &mut impl io::Read) -> usize {
     filled
 }
 
-/// `record`, start, length, first byte in decimal or `-` if empty.
+/// `record`, start, length, first byte in decimal. No record that comes out is empty (document 02
+/// [5]).
 fn write_record(output: &mut impl io::Write, start: usize, record: &[u8]) -> io::Result<()> {
-    let length = record.len();
-    match record.first() {
-        None => writeln!(output, "record {start} {length} -"),
-        Some(first) => writeln!(output, "record {start} {length} {first}"),
-    }
+    writeln!(output, "record {start} {} {}", record.len(), record[0])
 }
 
 fn write_refusal(output: &mut impl io::Write, refusal: Refusal, listed: usize) -> io::Result<()> {
@@ -118,11 +115,21 @@ mod tests {
         }
     }
 
+    /// A record of one byte, 7.
+    fn seven() -> Vec<u8> {
+        let mut page = vec![0; PAGE];
+        let next = segment::write(&mut page, 0, &[7]).expect("it fits");
+        page.truncate(next);
+        page
+    }
+
     #[test]
-    fn empty_record_and_refusal() {
-        let segment = [1, 0, 0, 0, 0, 0, 0, 9];
+    fn a_record_and_a_refusal() {
+        let compressed = [seven(), vec![9]].concat();
+        let hollow = [seven(), vec![1, 0, 0, 0, 0, 0, 0, 9]].concat();
         for list in [text, list_segment] {
-            assert_eq!(list(&segment), "record 0 0 -\nrefused 4 7 1\n");
+            assert_eq!(list(&compressed), "record 0 1 7\nrefused 4 8 1\n");
+            assert_eq!(list(&hollow), "record 0 1 7\nrefused 13 8 1\n");
         }
     }
 
@@ -135,12 +142,11 @@ mod tests {
 
     #[test]
     fn limit() {
-        let empty = [1, 0, 0, 0, 0, 0, 0];
-        let listed = zeros_between(&empty, INPUT_MAX, &[]);
-        assert_eq!(listed, "record 0 0 -\nclean 1\n");
+        let listed = zeros_between(&seven(), INPUT_MAX, &[]);
+        assert_eq!(listed, "record 0 1 7\nclean 1\n");
         // One byte more: the records stay, and the byte is not looked at.
-        let listed = zeros_between(&empty, INPUT_MAX + 1, &[9]);
-        assert_eq!(listed, "record 0 0 -\ntoo long\n");
+        let listed = zeros_between(&seven(), INPUT_MAX + 1, &[9]);
+        assert_eq!(listed, "record 0 1 7\ntoo long\n");
     }
 
     #[test]

@@ -19,6 +19,8 @@ pub const TOO_LONG: u32 = 9;
 pub const BAD_SUM: u32 = 10;
 pub const NO_ROOM: u32 = 11;
 pub const TORN: u32 = 12;
+/// Document 02 [5]: a fragment that ends a record and holds nothing, or an empty record to write.
+pub const HOLLOW: u32 = 13;
 pub const UNKNOWN_TYPE: u32 = 20;
 pub const EMPTY_BODY: u32 = 21;
 pub const SHORT: u32 = 22;

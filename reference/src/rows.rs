@@ -3,12 +3,12 @@
 //! are what Prometheus' own decoder gave, so they are numbers from outside both programs.
 
 use crate::body::{self, Entry, EXEMPLARS, METADATA, SAMPLES, SERIES, TOMBSTONES};
-use crate::refusal::{Refusal, EMPTY_BODY, UNKNOWN_TYPE};
+use crate::refusal::{Refusal, UNKNOWN_TYPE};
 use crate::segment::{self, Reading};
 use crate::vectors::hex;
 
 /// The lines of a segment up to its end or its refusal. It is an error if a body is refused other
-/// than for its type, or for having no byte.
+/// than for its type.
 pub fn text(segment: &[u8]) -> Result<String, String> {
     let mut buffer = vec![0; segment::RECORD_MAX];
     let mut lines = String::new();
@@ -25,16 +25,13 @@ pub fn text(segment: &[u8]) -> Result<String, String> {
     Ok(lines)
 }
 
-/// `record`, the place after it, its length, its first byte in decimal or `-` if empty.
+/// `record`, the place after it, its length, its first byte in decimal. No record that comes out is
+/// empty (document 02 [5]).
 fn record_line(after: usize, body: &[u8]) -> String {
-    let first = match body.first() {
-        None => "-".to_string(),
-        Some(byte) => byte.to_string(),
-    };
-    format!("record {after} {} {first}\n", body.len())
+    format!("record {after} {} {}\n", body.len(), body[0])
 }
 
-/// A line for each entry; none for a body without a byte or of a type that is not known.
+/// A line for each entry; none for a body of a type that is not known.
 fn entry_lines(body: &[u8]) -> Result<String, Refusal> {
     let mut lines = String::new();
     let mut place = 1;
@@ -45,9 +42,7 @@ fn entry_lines(body: &[u8]) -> Result<String, Refusal> {
                 place = entry.after;
                 lines += &entry_line(body, &entry)?;
             }
-            Err(refusal) if matches!(refusal.number, EMPTY_BODY | UNKNOWN_TYPE) => {
-                return Ok(lines);
-            }
+            Err(refusal) if refusal.number == UNKNOWN_TYPE => return Ok(lines),
             Err(refusal) => return Err(refusal),
         }
     }
@@ -118,6 +113,12 @@ mod tests {
         with_rows.map(|path| path.with_extension("")).collect()
     }
 
+    /// An empty record, as Prometheus reads one: we refuse it, and nothing comes out behind it
+    /// (document 02 [5]).
+    fn is_empty_record(line: &str) -> bool {
+        line.starts_with("record ") && line.ends_with(" 0 -")
+    }
+
     /// A line of a body type that is not read yet.
     fn is_histogram(line: &str) -> bool {
         line.starts_with("histogram ") || line.starts_with("float_histogram ")
@@ -131,8 +132,9 @@ mod tests {
             let segment = fs::read(&path).expect("the segment");
             let rows = fs::read_to_string(path.with_extension("rows")).expect("its rows");
             let own = text(&segment).expect("good bodies");
+            let rows = rows.lines().take_while(|line| !is_empty_record(line));
             let (histograms, wanted): (Vec<&str>, Vec<&str>) =
-                rows.lines().partition(|line| is_histogram(line));
+                rows.partition(|line| is_histogram(line));
             passed += histograms.len();
             compared += wanted.len();
             assert_eq!(own.lines().count(), wanted.len(), "{name}");
@@ -163,13 +165,23 @@ mod tests {
     #[test]
     fn records_without_entries() {
         for (body, line) in [
-            (&[][..], "record 7 0 -\n"),
-            (&[2], "record 8 1 2\n"),
+            (&[2][..], "record 8 1 2\n"),
             (&[5, 1, 2, 3], "record 11 4 5\n"),
             (&[200], "record 8 1 200\n"),
         ] {
             assert_eq!(text(&segment_of(body)), Ok(line.to_string()));
         }
+    }
+
+    #[test]
+    fn nothing_comes_out_behind_an_empty_record() {
+        let segment = [
+            segment_of(&[2]),
+            vec![1, 0, 0, 0, 0, 0, 0],
+            segment_of(&[3]),
+        ]
+        .concat();
+        assert_eq!(text(&segment), Ok("record 8 1 2\n".to_string()));
     }
 
     #[test]

@@ -1,6 +1,8 @@
-//! Published numbers as literals: RFC 3720's checksums and the varints of FORMAT 14.
+//! Published numbers as literals: RFC 3720's checksums, the varints of FORMAT 14, and its empty
+//! record, which document 02 [5] refuses.
 
-use crate::{crc32c, varint};
+use crate::refusal::{refuse, HOLLOW};
+use crate::{crc32c, segment, varint};
 
 /// RFC 3720, B.4: the 48 bytes of an iSCSI read command.
 pub const ISCSI_READ: [u8; 48] = [
@@ -46,7 +48,8 @@ pub fn run() -> Result<(), String> {
     published_checksums()?;
     both_forms_agree()?;
     published_uvarints()?;
-    published_varints()
+    published_varints()?;
+    empty_record_is_refused()
 }
 
 fn published_checksums() -> Result<(), String> {
@@ -94,6 +97,16 @@ fn published_varints() -> Result<(), String> {
         expect("varint read", back, Ok((number, encoded.len())))?;
     }
     Ok(())
+}
+
+/// 01 then six zero bytes is neither read nor written.
+fn empty_record_is_refused() -> Result<(), String> {
+    let mut buffer = vec![0; segment::RECORD_MAX];
+    let read = segment::read(&[1, 0, 0, 0, 0, 0, 0], 0, &mut buffer);
+    expect("empty record read", read, refuse(HOLLOW, 0))?;
+    let mut page = vec![0; segment::PAGE];
+    let written = segment::write(&mut page, 14, &[]);
+    expect("empty record written", written, refuse(HOLLOW, 14))
 }
 
 /// Bytes that look random and are the same each time.

@@ -12,7 +12,7 @@ const PAGES: usize = 4;
 
 /// The fourth leaves 4 bytes of filler in its page; the fifth leaves 7, so that the sixth begins
 /// with a fragment of length 0; the last ends where the segment ends.
-const LENGTHS: [usize; 8] = [0, 1, 37, 32_698, 32_754, 40_000, 25_508, 0];
+const LENGTHS: [usize; 8] = [1, 1, 37, 32_697, 32_754, 40_000, 25_507, 1];
 
 /// Inside the last fragment of the sixth record.
 const CUT: usize = 100_000;

@@ -195,7 +195,7 @@ fn written(rng: &mut Rng) -> Vec<u8> {
     let mut segment = vec![0; (1 + rng.below(6)) * PAGE];
     let mut place = 0;
     for _ in 0..rng.below(20) {
-        let length = rng.length(left_in_page(place) - HEADER);
+        let length = rng.length(left_in_page(place) - HEADER).max(1);
         let record = rng.bytes(length);
         match segment::write(&mut segment, place, &record) {
             Ok(next) => place = next,
@@ -233,7 +233,17 @@ fn foreign(rng: &mut Rng) -> Vec<u8> {
             segment.resize(segment.len() + left, 0);
             continue;
         }
-        let length = rng.length(left - HEADER).min(left - HEADER);
+        let mut length = rng.length(left - HEADER).min(left - HEADER);
+        // A hollow fragment ends the reading, so it is rare; where there is no room for a byte it
+        // is a type 2 or 3 instead, which stays good.
+        let kind = match kind {
+            FULL if left == HEADER => FIRST,
+            LAST if left == HEADER => MIDDLE,
+            _ => kind,
+        };
+        if length == 0 && (kind == FULL || kind == LAST) && !rng.once_in(8) {
+            length = 1;
+        }
         segment.extend(fragment(kind, &rng.bytes(length)));
         open = kind == FIRST || kind == MIDDLE;
     }
@@ -306,6 +316,7 @@ fn generated_segments() {
         TOO_LONG,
         BAD_SUM,
         TORN,
+        HOLLOW,
     ];
     assert_eq!(answers, BTreeSet::from(all));
 }
@@ -374,6 +385,75 @@ fn the_longest_record_and_one_byte_more() {
     segment.truncate(two);
     segment.extend(fragment(LAST, &[3; 15]));
     assert_eq!(compare(&segment), TOO_LONG);
+}
+
+/// Document 02 [5]: bytes that were written, cut just after a fragment's type byte and followed by
+/// zeros, give exactly the records that are whole before the cut.
+#[test]
+fn zeros_after_a_type_byte() {
+    let mut rng = Rng(6);
+    for _ in 0..60 {
+        let segment = written(&mut rng);
+        let whole = ends_of_records(&segment);
+        for at in type_bytes(&segment) {
+            for zeros in [0, 1, 5, 6, 7, 8, 40, PAGE, 2 * PAGE] {
+                let mut cut = segment[..=at].to_vec();
+                cut.resize(at + 1 + zeros, 0);
+                assert_ne!(compare(&cut), CLEAN);
+                let before = whole.iter().take_while(|&&after| after <= at + 1).count();
+                assert_eq!(ends_of_records(&cut), whole[..before]);
+            }
+        }
+    }
+}
+
+/// The places after the records that come out.
+fn ends_of_records(segment: &[u8]) -> Vec<usize> {
+    let mut buffer = vec![0; RECORD_MAX];
+    let mut ends = vec![];
+    let mut place = 0;
+    while let Ok(Reading::Record(record)) = segment::read(segment, place, &mut buffer) {
+        place = record.after;
+        ends.push(place);
+    }
+    ends
+}
+
+/// Where the fragments of written bytes begin.
+fn type_bytes(segment: &[u8]) -> Vec<usize> {
+    let mut places = vec![];
+    let mut at = 0;
+    while at < segment.len() {
+        if left_in_page(at) < HEADER || segment[at] == EMPTY {
+            at += left_in_page(at);
+            continue;
+        }
+        places.push(at);
+        at += HEADER + usize::from(u16::from_be_bytes([segment[at + 1], segment[at + 2]]));
+    }
+    places
+}
+
+#[test]
+fn a_hollow_fragment_is_refused_where_it_stands() {
+    let first = fragment(FIRST, &[1; FRAGMENT_MAX]);
+    let hollow = fragment(LAST, &[]);
+    let mut buffer = vec![UNTOUCHED; RECORD_MAX];
+    let mut feed = Feed::start();
+    assert_eq!(feed.feed_page(&first), Ok(()));
+    assert_eq!(feed.read(&first, &mut buffer), Read::More);
+    assert_eq!(feed.feed_page(&hollow), Ok(()));
+    assert_eq!(feed.read(&hollow, &mut buffer), refused(HOLLOW, PAGE));
+    // It stands, and what was verified before it stays in the buffer.
+    feed_refused(&mut feed, &[], HOLLOW, PAGE);
+    read_refused(&mut feed, &hollow, refused(HOLLOW, PAGE));
+    assert_eq!(buffer[FRAGMENT_MAX - 1..][..2], [1, UNTOUCHED]);
+    assert_eq!(compare(&[first.clone(), hollow].concat()), HOLLOW);
+    assert_eq!(compare(&fragment(FULL, &[])), HOLLOW);
+    // Types 2 and 3 of length 0 are good.
+    let last = fragment(LAST, &[7]);
+    let good = [fragment(FIRST, &[]), fragment(MIDDLE, &[]), last].concat();
+    assert_eq!(compare(&good), CLEAN);
 }
 
 // ---- Orders of calls ----
