@@ -23,6 +23,7 @@ pub fn groups() -> Vec<Group> {
         ("feed, cuts", corpus::compare_cuts),
         ("feed, damage", corpus::compare_damage),
         ("feed, tails of zeros", corpus::compare_tails),
+        ("feed, zeros after a cut", corpus::compare_zeros),
         ("feed, foreign splittings", corpus::compare_foreign),
         ("feed, foreign long records", corpus::compare_foreign_long),
         ("feed, random bytes", corpus::compare_noise),

@@ -67,7 +67,7 @@ pub fn record_length(rng: &mut Rng, left: usize) -> usize {
 }
 
 /// The fragments of the record written at a place.
-fn add_fragments(fragments: &mut Vec<Fragment>, bytes: &[u8], record: usize) {
+pub fn add_fragments(fragments: &mut Vec<Fragment>, bytes: &[u8], record: usize) {
     let mut start = record;
     loop {
         let length = u16::from_be_bytes([bytes[start + 1], bytes[start + 2]]);
@@ -188,9 +188,14 @@ impl Maker {
         }
     }
 
+    /// A fragment without data does not end a record, but for a few: these are hollow, and nothing
+    /// behind them is read.
     fn kind(&self, rng: &mut Rng, length: usize) -> u8 {
         if rng.once_in(100) {
             return rng.byte() & 0b111;
+        }
+        if length == 0 && !rng.once_in(16) {
+            return self.open.map_or(FIRST, |_| MIDDLE);
         }
         let long_enough = self.length + length > RECORD_MAX - 4;
         match self.open {
@@ -261,6 +266,15 @@ pub fn cuts_near(fragment: Fragment, length: usize) -> impl Iterator<Item = usiz
     let header = fragment.start..fragment.start + HEADER + 3;
     let end = fragment.end.saturating_sub(3)..fragment.end + 10;
     header.chain(end).filter(move |&cut| cut <= length)
+}
+
+/// Numbers of zeros that a flash part leaves after a cut: none, one, those that complete a header
+/// after its type byte, one more, some, and a page.
+pub const ZEROS: [usize; 6] = [0, 1, 6, 7, 40, PAGE];
+
+/// Cuts before, in and just after the header of a fragment.
+pub fn cuts_in_header(fragment: Fragment) -> impl Iterator<Item = usize> {
+    fragment.start..fragment.start + HEADER + 1
 }
 
 /// A cut in a fragment or shortly after it.

@@ -16,7 +16,7 @@ use crate::rng::Rng;
 use crate::twin::Twin;
 use crate::Group;
 use reference::body::{self, SeriesId, Timestamp, SAMPLES};
-use reference::refusal::{BAD_BUFFER, BAD_VARINT, EMPTY_BODY, SHORT, TABLE_FULL, UNKNOWN_TYPE};
+use reference::refusal::{BAD_BUFFER, BAD_VARINT, SHORT, TABLE_FULL, UNKNOWN_TYPE};
 use reference::replay::{Replayed, Row, Table, SERIES_MAX};
 use reference::segment::{self, Reading, RECORD_MAX};
 
@@ -30,6 +30,7 @@ pub fn groups() -> Vec<Group> {
         ("replay, refused bodies", broken::compare_bodies),
         ("replay, random bodies", broken::compare_noise),
         ("replay, cuts", broken::compare_cuts),
+        ("replay, zeros after a cut", broken::compare_zeros),
         ("replay, damage", broken::compare_damage),
         ("replay, random bytes", broken::compare_bytes),
         ("replay, bad lengths", broken::compare_lengths),
@@ -194,10 +195,7 @@ fn sample_rows(bytes: &[u8]) -> Result<u64, String> {
 
 /// The numbers that refuse a record which was read.
 fn is_of_record(number: u32) -> bool {
-    matches!(
-        number,
-        UNKNOWN_TYPE | EMPTY_BODY | SHORT | BAD_VARINT | TABLE_FULL
-    )
+    matches!(number, UNKNOWN_TYPE | SHORT | BAD_VARINT | TABLE_FULL)
 }
 
 /// What `depot_wal_replay` has to answer.

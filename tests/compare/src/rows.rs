@@ -12,10 +12,11 @@ pub struct Compared {
     pub passed_over: u64,
 }
 
-/// Compares all lines of a segment.
+/// Compares all lines of a segment, up to an empty record: Prometheus reads it, the library refuses
+/// it.
 pub fn compare_file(segment: &[u8], rows: &str) -> Result<Compared, String> {
-    let (known, histograms): (Vec<&str>, Vec<&str>) =
-        rows.lines().partition(|line| !is_histogram(line));
+    let rows = rows.lines().take_while(|line| !is_empty_record(line));
+    let (known, histograms): (Vec<&str>, Vec<&str>) = rows.partition(|line| !is_histogram(line));
     let ours = library_rows(segment)?;
     let mut ours = ours.lines();
     for (number, &theirs) in known.iter().enumerate() {
@@ -31,6 +32,10 @@ pub fn compare_file(segment: &[u8], rows: &str) -> Result<Compared, String> {
         lines: known.len() as u64,
         passed_over: histograms.len() as u64,
     })
+}
+
+fn is_empty_record(line: &str) -> bool {
+    line.starts_with("record ") && line.ends_with(" 0 -")
 }
 
 fn is_histogram(line: &str) -> bool {
@@ -49,7 +54,7 @@ fn library_rows(segment: &[u8]) -> Result<String, String> {
         }
         let [_, length, next] = answer.out;
         let body = &buffer[..length as usize];
-        let tag = body.first().map_or("-".into(), u8::to_string);
+        let tag = body.first().ok_or("an empty record came out")?;
         put(&mut lines, format_args!("record {next} {length} {tag}\n"));
         put_entries(&mut lines, body).map_err(|why| format!("record before {next}: {why}"))?;
         place = next as usize;
@@ -60,7 +65,7 @@ fn put(lines: &mut String, words: std::fmt::Arguments) {
     lines.write_fmt(words).expect("a string takes every word");
 }
 
-/// The entries of a body; none for a type that is not known, or an empty record.
+/// The entries of a body; none for a type that is not known.
 fn put_entries(lines: &mut String, body: &[u8]) -> Result<(), String> {
     if !matches!(body.first(), Some(1..=4 | 6)) {
         return Ok(());

@@ -1,6 +1,8 @@
 //! Writing and reading of segments against the second program: answer, `out`, every byte of the
 //! slice and of the buffer.
 
+mod zeros;
+
 use crate::checksums::{fill_with_noise, own_table};
 use crate::ffi::{self, Answer, Table, END};
 use crate::generate::{
@@ -22,6 +24,8 @@ pub fn groups() -> Vec<Group> {
         ("read, cuts", compare_cuts),
         ("read, damage", compare_damage),
         ("read, tails of zeros", compare_tails),
+        ("read, zeros after a cut", zeros::compare_cuts),
+        ("read, zeros after a type byte", zeros::compare_type_bytes),
         ("read, foreign splittings", compare_foreign),
         ("read, foreign long records", compare_foreign_long),
         ("read, random bytes", compare_noise),
@@ -562,8 +566,10 @@ const LAST_PAGE: usize = SEGMENT_MAX - PAGE;
 fn compare_read_limit(rng: &mut Rng) -> Outcome {
     let segment = Twin::zeroed(rng, SEGMENT_MAX + PAGE);
     let mut bench = Bench::with_segment(rng, segment);
-    bench.segment.put_at(LAST_PAGE, &[1, 0, 0, 0, 0, 0, 0]);
-    bench.segment.put_at(LAST_PAGE + 7, &[2, 0, 0, 0, 0, 0, 0]);
+    let mut record = [37; HEADER + 1];
+    generate::make_fragment(&mut record, segment::FULL);
+    bench.segment.put_at(LAST_PAGE, &record);
+    bench.segment.put_at(LAST_PAGE + 8, &[2, 0, 0, 0, 0, 0, 0]);
     for length in NEAR_LIMIT.repeat(2) {
         read_near_limit(&mut bench, length)?;
     }
@@ -576,8 +582,8 @@ fn read_near_limit(bench: &mut Bench, length: usize) -> Result<(), String> {
         1,
         LAST_PAGE - 3,
         LAST_PAGE,
-        LAST_PAGE + 7,
-        LAST_PAGE + 14,
+        LAST_PAGE + 8,
+        LAST_PAGE + 15,
         SEGMENT_MAX - 7,
         SEGMENT_MAX - 6,
         SEGMENT_MAX - 1,

@@ -100,6 +100,28 @@ pub fn compare_tails(rng: &mut Rng) -> Outcome {
     Ok(feeds.cases)
 }
 
+/// Written segments, cut in or just after a fragment's header, and then zeros
+/// (document 02 [5]).
+pub fn compare_zeros(rng: &mut Rng) -> Outcome {
+    let mut feeds = Feeds::new(rng);
+    for _ in 0..60 {
+        let pages = 1 + rng.below(3);
+        let writes = 1 + rng.below(8);
+        let sample = generate::written_by(rng, pages, writes);
+        feeds.shift(rng);
+        for fragment in &sample.fragments {
+            for cut in generate::cuts_in_header(*fragment) {
+                for zeros in generate::ZEROS {
+                    let mut bytes = sample.bytes[..cut].to_vec();
+                    bytes.resize(cut + zeros, 0);
+                    feeds.read_all(&bytes)?;
+                }
+            }
+        }
+    }
+    Ok(feeds.cases)
+}
+
 /// A foreign segment, cut.
 fn tail_sample(rng: &mut Rng) -> Sample {
     let mut sample = generate::foreign_from_0(rng, Splitting::Short);
@@ -140,7 +162,7 @@ pub fn compare_noise(rng: &mut Rng) -> Outcome {
         generate::noise(rng, &mut noise);
         let before = match case % 4 {
             0 if case % 16 == 0 => PAGE - 1 - rng.below(30),
-            0 => HEADER + rng.below(4),
+            0 => HEADER + rng.below(10),
             _ => 0,
         };
         let mut bytes = rng.bytes(before);

@@ -9,7 +9,7 @@ use crate::generate::{self, any_buffer, Splitting};
 use crate::rng::Rng;
 use crate::twin::Twin;
 use crate::Outcome;
-use reference::refusal::{BAD_BUFFER, BAD_PLACE, BAD_SUM, RESERVED, TORN};
+use reference::refusal::{BAD_BUFFER, BAD_PLACE, BAD_SUM, HOLLOW, RESERVED, TORN};
 use reference::segment::{HEADER, PAGE, RECORD_MAX, SEGMENT_MAX};
 
 /// Handed-out states that others are made from, and how many from each.
@@ -242,7 +242,7 @@ impl Trial {
 
 /// The numbers of the reading steps, Torn aside.
 fn is_standing(number: u32) -> bool {
-    (RESERVED..=BAD_SUM).contains(&number)
+    (RESERVED..=BAD_SUM).contains(&number) || number == HOLLOW
 }
 
 fn any_bytes(rng: &mut Rng) -> Vec<u8> {

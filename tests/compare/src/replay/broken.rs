@@ -11,8 +11,8 @@ use reference::segment::{HEADER, PAGE};
 
 // ---- Bodies ----
 
-/// Short logs in which each record in turn has a body that is cut, changed, of another type or
-/// empty.
+/// Short logs in which each record in turn has a body that is cut, changed or of another type, or
+/// is empty, and so hollow.
 pub fn compare_bodies(rng: &mut Rng) -> Outcome {
     let mut replays = Replays::new(rng);
     for _ in 0..40 {
@@ -93,6 +93,23 @@ pub fn compare_cuts(rng: &mut Rng) -> Outcome {
         for fragment in some_fragments(rng, &sample) {
             for cut in generate::cuts_near(fragment, sample.bytes.len()) {
                 replays.replay(cut)?;
+            }
+        }
+    }
+    Ok(replays.cases)
+}
+
+/// Short logs cut at every byte, then zeros: nothing comes out but what is whole before the cut.
+pub fn compare_zeros(rng: &mut Rng) -> Outcome {
+    let mut replays = Replays::new(rng);
+    for _ in 0..16 {
+        let records = 1 + rng.below(6);
+        let Log { bytes, .. } = any_log(rng, 4, records, 4);
+        for cut in 0..bytes.len() {
+            for zeros in generate::ZEROS {
+                let mut cut_off = bytes[..cut].to_vec();
+                cut_off.resize(cut + zeros, 0);
+                replays.replay_log(rng, &cut_off)?;
             }
         }
     }

@@ -28,7 +28,7 @@ impl Log {
         log
     }
 
-    /// Adds a record as our writer splits it.
+    /// Adds a record as our writer splits it; an empty one as a hollow fragment.
     pub fn add(&mut self, record: &[u8]) {
         self.add_by(record, |most| most);
     }
