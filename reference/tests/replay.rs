@@ -1,5 +1,5 @@
-//! Replay (document 02 [3]): each rule by a small log, and generated logs against a replay that is
-//! written down as the paper says it, one look at the whole table for every row.
+//! Replay (document 02 [3] and [6]): each rule by a small log, generated logs against a replay that
+//! is written down as the paper says it, one look at the whole table for every row, and real ones.
 
 mod rng;
 
@@ -8,7 +8,7 @@ use reference::body::{
     SERIES, TOMBSTONES,
 };
 use reference::refusal::*;
-use reference::replay::{replay, Replayed, Row, Table, SERIES_MAX};
+use reference::replay::{replay, replay_strict, Replayed, Row, Table, SERIES_MAX};
 use reference::segment::{self, Reading, HEADER, PAGE, RECORD_MAX, SEGMENT_MAX};
 use rng::Rng;
 use std::collections::BTreeSet;
@@ -102,6 +102,7 @@ struct Plain {
     orphans: u64,
     /// Sample rows of the records replayed, counted from the log itself.
     sample_rows: u64,
+    skipped: u64,
 }
 
 impl Plain {
@@ -149,7 +150,7 @@ impl Plain {
         }
     }
 
-    fn replay(segment: &[u8], buffer: &mut [u8]) -> (Plain, Option<Refusal>) {
+    fn replay(mode: Mode, segment: &[u8], buffer: &mut [u8]) -> (Plain, Option<Refusal>) {
         let mut state = Plain::default();
         let mut place = 0;
         loop {
@@ -160,6 +161,7 @@ impl Plain {
             };
             match state.with(&buffer[..record.length]) {
                 Ok(next) => state = next,
+                Err(UNKNOWN_TYPE) if mode == Mode::Default => state.skipped += 1,
                 Err(number) => {
                     let place = record.start;
                     return (state, Some(Refusal { number, place }));
@@ -170,17 +172,42 @@ impl Plain {
     }
 }
 
-/// Replays a log both ways, compares everything, and answers what came out.
+#[derive(Clone, Copy, Debug, PartialEq, Eq)]
+enum Mode {
+    Default,
+    Strict,
+}
+
+/// Replays a log in both modes, and answers what the default gave. Where nothing is skipped they are
+/// the same; else the strict one ends at the first record that the default skips.
 fn compare(segment: &[u8]) -> (Replayed, Vec<Row>) {
+    let default = compare_as(Mode::Default, segment);
+    let strict = compare_as(Mode::Strict, segment);
+    let number = |refusal: Option<Refusal>| refusal.map(|refusal| refusal.number);
+    assert_ne!(number(default.0.refusal), Some(UNKNOWN_TYPE));
+    assert_eq!(strict.0.skipped, 0);
+    match default.0.skipped {
+        0 => assert_eq!(strict, default),
+        _ => assert_eq!(number(strict.0.refusal), Some(UNKNOWN_TYPE)),
+    }
+    default
+}
+
+/// Replays a log and replays it as the paper says, compares everything, and answers what came out.
+fn compare_as(mode: Mode, segment: &[u8]) -> (Replayed, Vec<Row>) {
     let mut table: Table = [BEFORE; SERIES_MAX];
     let mut buffer = vec![0xAA; RECORD_MAX + 1];
-    let replayed = replay(segment, &mut buffer, &mut table);
+    let replayed = match mode {
+        Mode::Default => replay(segment, &mut buffer, &mut table),
+        Mode::Strict => replay_strict(segment, &mut buffer, &mut table),
+    };
     let mut plain_buffer = vec![0xAA; RECORD_MAX + 1];
-    let (plain, refusal) = Plain::replay(segment, &mut plain_buffer);
+    let (plain, refusal) = Plain::replay(mode, segment, &mut plain_buffer);
     let expected = Replayed {
         refusal,
         series: plain.series.len(),
         orphans: plain.orphans,
+        skipped: plain.skipped,
     };
     assert_eq!(replayed, expected);
     let (series, behind) = table.split_at(replayed.series);
@@ -447,12 +474,71 @@ fn an_empty_record() {
     assert_eq!(known, [row(7, 0, 0, 0)]);
 }
 
+/// The types that no body has.
+fn unknown_types() -> impl Iterator<Item = u8> {
+    (0..=255).filter(|kind| !matches!(kind, 1 | 2 | 3 | 4 | 6))
+}
+
 #[test]
-fn an_unknown_type() {
-    for kind in (0..=255).filter(|kind| !matches!(kind, 1 | 2 | 3 | 4 | 6)) {
-        let (known, _) = replay_refused(&[series([7]), vec![kind, 1, 2]], UNKNOWN_TYPE);
-        assert_eq!(known, [row(7, 0, 0, 0)]);
+fn an_unknown_type_is_skipped() {
+    for kind in unknown_types() {
+        let bodies = [
+            series([7]),
+            vec![kind, 1, 2],
+            samples(&[(7, 5, 50)]),
+            vec![kind],
+        ];
+        let (replayed, known) = compare(&log(&bodies).0);
+        assert_eq!((replayed.refusal, replayed.skipped), (None, 2));
+        assert_eq!(known, [row(7, 1, 5, 50)]);
     }
+}
+
+#[test]
+fn an_unknown_type_stops_a_strict_replay() {
+    for kind in unknown_types() {
+        let bodies = [series([7]), vec![kind, 1, 2], samples(&[(7, 5, 50)])];
+        let (segment, starts) = log(&bodies);
+        let (replayed, known) = compare_as(Mode::Strict, &segment);
+        let (number, place) = (UNKNOWN_TYPE, starts[1]);
+        assert_eq!(replayed.refusal, Some(Refusal { number, place }));
+        assert_eq!((replayed.skipped, known), (0, vec![row(7, 0, 0, 0)]));
+    }
+}
+
+/// Skipped or not, every other refusal ends a replay: of a body, of a full table, of the reading.
+#[test]
+fn what_is_not_skipped() {
+    let skipped = vec![vec![5, 9, 9], vec![200]];
+    let full = series(1..=256);
+    for (last, number) in [
+        (vec![SERIES, 0], SHORT),
+        ([&[METADATA], &[0xFF; 10][..]].concat(), BAD_VARINT),
+        (series([257]), TABLE_FULL),
+    ] {
+        let bodies = [vec![full.clone()], skipped.clone(), vec![last]].concat();
+        let (segment, starts) = log(&bodies);
+        let (replayed, _) = compare(&segment);
+        let place = starts[3];
+        assert_eq!(replayed.refusal, Some(Refusal { number, place }));
+        assert_eq!(replayed.skipped, 2);
+    }
+    let (mut segment, _) = log(&[vec![full], skipped].concat());
+    let place = segment.len();
+    segment.extend([1, 0, 0, 0, 0, 0, 0]);
+    let (replayed, _) = compare(&segment);
+    let number = HOLLOW;
+    assert_eq!(replayed.refusal, Some(Refusal { number, place }));
+    assert_eq!(replayed.skipped, 2);
+}
+
+/// A skipped record of several fragments leaves its bytes in the record buffer, as the reads left
+/// them; `compare` looks at them.
+#[test]
+fn a_long_record_is_skipped() {
+    let (replayed, known) = compare(&log(&[vec![5; 60_000], series([7]), vec![200; 9]]).0);
+    assert_eq!((replayed.refusal, replayed.skipped), (None, 2));
+    assert_eq!(known, [row(7, 0, 0, 0)]);
 }
 
 /// A body of each type, with entries that would change the table.
@@ -556,10 +642,12 @@ fn wrong_lengths() {
         }),
         series: 0,
         orphans: 0,
+        skipped: 0,
     };
     let mut table: Table = [BEFORE; SERIES_MAX];
     let mut short = vec![0xAA; RECORD_MAX - 1];
     assert_eq!(replay(&segment, &mut short, &mut table), refused);
+    assert_eq!(replay_strict(&segment, &mut short, &mut table), refused);
     let mut none = [];
     assert_eq!(replay(&[9], &mut none, &mut table), refused);
     assert!(short.iter().all(|&byte| byte == 0xAA));
@@ -636,6 +724,9 @@ fn any_body(rng: &mut Rng) -> Vec<u8> {
         let length = 1 + rng.below(30);
         body = rng.bytes(length);
     }
+    if rng.once_in(30) {
+        body[0] = rng.pick(&[0, 5, 200, 255]);
+    }
     body
 }
 
@@ -658,16 +749,18 @@ fn generated_logs() {
     let mut rng = Rng(5);
     let mut numbers = BTreeSet::new();
     let mut orphans = 0;
+    let mut skipped = 0;
     let mut marked = 0;
     for _ in 0..3_000 {
         let (replayed, series) = compare(&any_log(&mut rng));
         numbers.extend(replayed.refusal.map(|refusal| refusal.number));
         orphans += replayed.orphans;
+        skipped += replayed.skipped;
         marked += series.iter().filter(|row| row.deleted).count();
     }
     // What has to be met was met.
-    assert!(orphans > 0 && marked > 0);
-    for number in [BAD_SUM, TORN, UNKNOWN_TYPE, SHORT, BAD_VARINT, TABLE_FULL] {
+    assert!(orphans > 0 && skipped > 0 && marked > 0);
+    for number in [BAD_SUM, TORN, SHORT, BAD_VARINT, TABLE_FULL] {
         assert!(numbers.contains(&number), "{number} in {numbers:?}");
     }
 }
@@ -694,5 +787,58 @@ fn ids_that_collide() {
         for (row, id) in series.iter().zip(ids) {
             assert_eq!((row.id.0, row.rows, row.bits), (id, 1, id));
         }
+    }
+}
+
+// ---- Real logs ----
+
+const FIXTURES: &str = concat!(env!("CARGO_MANIFEST_DIR"), "/../tests/fixtures");
+
+fn fixture(name: &str) -> Vec<u8> {
+    std::fs::read(format!("{FIXTURES}/{name}_00000000")).expect("a fixture")
+}
+
+/// A real log: its name, the records skipped, and how it ends by default and strictly.
+type Real = (
+    &'static str,
+    u64,
+    Option<(u32, usize)>,
+    Option<(u32, usize)>,
+);
+
+const REAL: [Real; 4] = [
+    ("small_kill9", 116, None, Some((UNKNOWN_TYPE, 3_696))),
+    // Many more series than a table holds.
+    (
+        "cut_enospc_kill9",
+        2,
+        Some((TABLE_FULL, 3_986)),
+        Some((UNKNOWN_TYPE, 723)),
+    ),
+    // Its empty record comes before its types 5 and 200.
+    (
+        "real_encoder_extremes",
+        0,
+        Some((HOLLOW, 22_162)),
+        Some((HOLLOW, 22_162)),
+    ),
+    (
+        "compressed_default",
+        0,
+        Some((COMPRESSED, 0)),
+        Some((COMPRESSED, 0)),
+    ),
+];
+
+#[test]
+fn what_prometheus_wrote() {
+    let ending = |refusal: Option<Refusal>| refusal.map(|why| (why.number, why.place));
+    for (name, skipped, default, strict) in REAL {
+        let segment = fixture(name);
+        let (replayed, _) = compare(&segment);
+        assert_eq!(ending(replayed.refusal), default, "{name}");
+        assert_eq!(replayed.skipped, skipped, "{name}");
+        let (replayed, _) = compare_as(Mode::Strict, &segment);
+        assert_eq!(ending(replayed.refusal), strict, "{name}, strictly");
     }
 }
