@@ -1,5 +1,6 @@
-//! Replay against the second program: answer, `out`, all numbers of the table, every byte of the
-//! segment and of the record buffer. And against the log itself: each sample row is counted once.
+//! Replay against the second program, by default and strictly: answer, `out`, all numbers of the
+//! table, every byte of the segment and of the record buffer. And against the log itself: each
+//! sample row is counted once, and each record that is skipped.
 
 mod broken;
 mod corpus;
@@ -10,7 +11,7 @@ mod times;
 
 pub use corpus::compare_file;
 
-use crate::ffi::replay::{self, SeriesTable, REPLAY_LEN, ROW_LEN};
+use crate::ffi::replay::{self, SeriesTable, OUT_LEN, REPLAY_LEN, ROW_LEN};
 use crate::ffi::Answer;
 use crate::rng::Rng;
 use crate::twin::Twin;
@@ -43,6 +44,13 @@ const ROOM: usize = 1 << 18;
 
 /// Of a log that differs, so many bytes are printed at most.
 const SHOWN: usize = 4_096;
+
+/// What becomes of a body whose type is not known.
+#[derive(Clone, Copy, Debug, PartialEq, Eq)]
+enum Mode {
+    Default,
+    Strict,
+}
 
 /// The caller-owned bytes and numbers, used again from case to case.
 struct Replays {
@@ -89,38 +97,58 @@ impl Replays {
     }
 
     /// Puts a log into the segment and replays it whole.
-    fn replay_log(&mut self, rng: &mut Rng, bytes: &[u8]) -> Result<Answer<3>, String> {
+    fn replay_log(&mut self, rng: &mut Rng, bytes: &[u8]) -> Result<Answer<OUT_LEN>, String> {
         self.put(rng, bytes);
         self.replay(bytes.len())
     }
 
     /// Replays the first `length` bytes of the segment.
-    fn replay(&mut self, length: usize) -> Result<Answer<3>, String> {
+    fn replay(&mut self, length: usize) -> Result<Answer<OUT_LEN>, String> {
         self.replay_into(length, RECORD_MAX)
     }
 
-    /// The same with the first `room` bytes of the buffer.
-    fn replay_into(&mut self, length: usize, room: usize) -> Result<Answer<3>, String> {
+    /// The same with the first `room` bytes of the buffer: strictly, and by default, of which the
+    /// answer is handed back.
+    fn replay_into(&mut self, length: usize, room: usize) -> Result<Answer<OUT_LEN>, String> {
+        self.replay_as(Mode::Strict, length, room)?;
+        self.replay_as(Mode::Default, length, room)
+    }
+
+    fn replay_as(
+        &mut self,
+        mode: Mode,
+        length: usize,
+        room: usize,
+    ) -> Result<Answer<OUT_LEN>, String> {
         self.cases += 1;
         let (ours, theirs) = self.segment.both(0..length);
         let (our_buffer, their_buffer) = self.buffer.both(0..room);
         let mut table = *self.noise;
         let mut rows = rows_of(&self.noise);
-        let got = replay::replay(ours, our_buffer, &mut table);
-        let wanted = reference::replay::replay(theirs, their_buffer, &mut rows);
+        let (got, wanted) = match mode {
+            Mode::Default => (
+                replay::replay(ours, our_buffer, &mut table),
+                reference::replay::replay(theirs, their_buffer, &mut rows),
+            ),
+            Mode::Strict => (
+                replay::replay_strict(ours, our_buffer, &mut table),
+                reference::replay::replay_strict(theirs, their_buffer, &mut rows),
+            ),
+        };
         self.compare_answers(got, replay_answer(&wanted))
             .and_then(|()| compare_tables(&self.noise, &table, &rows[..wanted.series]))
             .and_then(|()| left_behind(&self.noise, &rows, wanted.series))
             .and_then(|()| self.compare_bytes(length))
-            .and_then(|()| self.count_rows(length, got, &table))
+            .and_then(|()| self.count_again(mode, length, got, &table))
             .map_err(|why| {
                 let log = self.segment.bytes(0..length.min(SHOWN));
-                format!("replay of {length} bytes into {room}: {why}; the log is {log:02X?}")
+                let what = format!("{mode:?} replay of {length} bytes into {room}");
+                format!("{what}: {why}; the log is {log:02X?}")
             })?;
         Ok(got)
     }
 
-    fn compare_answers(&self, got: Answer<3>, wanted: Answer<3>) -> Result<(), String> {
+    fn compare_answers(&self, got: Answer<OUT_LEN>, wanted: Answer<OUT_LEN>) -> Result<(), String> {
         match got == wanted {
             true => Ok(()),
             false => Err(format!("got {got:?}, wanted {wanted:?}")),
@@ -141,55 +169,76 @@ impl Replays {
         Ok(())
     }
 
-    /// Rows counted over all series plus orphans equal the sample rows in the records replayed,
-    /// counted from the log itself.
-    fn count_rows(
+    /// Rows counted over all series plus orphans equal the sample rows in the records replayed, and
+    /// records skipped those of types that are not known, both counted from the log itself.
+    fn count_again(
         &mut self,
+        mode: Mode,
         length: usize,
-        got: Answer<3>,
+        got: Answer<OUT_LEN>,
         table: &SeriesTable,
     ) -> Result<(), String> {
-        let [_, series, orphans] = got.out;
+        let [_, series, orphans, skipped] = got.out;
         let rows = table.chunks_exact(ROW_LEN).map(|row| row[1]);
-        let counted = rows.take(series as usize).sum::<u64>() + orphans;
-        let present = self.rows_in_log(length, got)?;
+        let rows = rows.take(series as usize).sum::<u64>() + orphans;
+        let counted = Counts { rows, skipped };
+        let present = self.counts_in_log(mode, length, got)?;
         if counted != present {
-            return Err(format!("{counted} rows counted, {present} in the log"));
+            return Err(format!("counted {counted:?}, in the log {present:?}"));
         }
         Ok(())
     }
 
-    /// The sample rows in the records before the one that the answer refuses, or in all.
-    fn rows_in_log(&mut self, length: usize, got: Answer<3>) -> Result<u64, String> {
+    /// Of the records before the one that the answer refuses, or of all.
+    fn counts_in_log(
+        &mut self,
+        mode: Mode,
+        length: usize,
+        got: Answer<OUT_LEN>,
+    ) -> Result<Counts, String> {
+        let mut counts = Counts::default();
         if got.number == BAD_BUFFER {
-            return Ok(0);
+            return Ok(counts);
         }
         let refused = is_of_record(got.number).then_some(got.out[0] as usize);
         let bytes = self.segment.bytes(0..length);
-        let mut rows = 0;
         let mut place = 0;
         while let Ok(Reading::Record(record)) = segment::read(bytes, place, &mut self.count_buffer)
         {
             if refused == Some(record.start) {
-                return Ok(rows);
+                return Ok(counts);
             }
-            rows += sample_rows(&self.count_buffer[..record.length])
+            counts
+                .add(mode, &self.count_buffer[..record.length])
                 .map_err(|why| format!("the record at {} was replayed: {why}", record.start))?;
             place = record.after;
         }
         match refused {
-            None => Ok(rows),
+            None => Ok(counts),
             Some(start) => Err(format!("no record starts at {start}")),
         }
     }
 }
 
-/// The rows of a good body, which are 0 in all types but one.
-fn sample_rows(bytes: &[u8]) -> Result<u64, String> {
-    match body::check(bytes) {
-        Ok(entries) if bytes[0] == SAMPLES => Ok(entries as u64),
-        Ok(_) => Ok(0),
-        Err(refusal) => Err(format!("its body is {refusal:?}")),
+/// What is counted from a log itself.
+#[derive(Clone, Copy, Debug, Default, PartialEq, Eq)]
+struct Counts {
+    rows: u64,
+    skipped: u64,
+}
+
+impl Counts {
+    /// A body that was replayed: it is good, or skipped. It has rows in one type only.
+    fn add(&mut self, mode: Mode, bytes: &[u8]) -> Result<(), String> {
+        match body::check(bytes) {
+            Ok(entries) if bytes[0] == SAMPLES => self.rows += entries as u64,
+            Ok(_) => {}
+            Err(refusal) if refusal.number == UNKNOWN_TYPE && mode == Mode::Default => {
+                self.skipped += 1;
+            }
+            Err(refusal) => return Err(format!("its body is {refusal:?}")),
+        }
+        Ok(())
     }
 }
 
@@ -199,13 +248,13 @@ fn is_of_record(number: u32) -> bool {
 }
 
 /// What `depot_wal_replay` has to answer.
-fn replay_answer(replayed: &Replayed) -> Answer<3> {
+fn replay_answer(replayed: &Replayed) -> Answer<OUT_LEN> {
     let (number, place) = match replayed.refusal {
         None => (0, 0),
         Some(refusal) => (refusal.number, refusal.place),
     };
-    let series = replayed.series as u64;
-    Answer::new(number, [place as u64, series, replayed.orphans])
+    let (series, orphans, skipped) = (replayed.series, replayed.orphans, replayed.skipped);
+    Answer::new(number, [place as u64, series as u64, orphans, skipped])
 }
 
 // ---- Tables ----

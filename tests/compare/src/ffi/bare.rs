@@ -5,7 +5,7 @@ use super::bodies::{
     depot_wal_add_sample, depot_wal_body_check, depot_wal_body_start, depot_wal_entry_at,
 };
 use super::feed::{depot_wal_feed_page, depot_wal_feed_read, depot_wal_feed_start, State as Feed};
-use super::replay::{depot_wal_replay, SeriesTable};
+use super::replay::{depot_wal_replay, SeriesTable, OUT_LEN as REPLAY_OUT};
 use super::*;
 use reference::body::{Sample, State};
 
@@ -93,7 +93,7 @@ pub fn replay(
     segment: &[u8],
     buffer: &mut [u8],
     table: &mut SeriesTable,
-    out: &mut [u64; 3],
+    out: &mut [u64; REPLAY_OUT],
 ) -> u32 {
     let (length, bytes) = (segment.len(), segment.as_ptr());
     let (room, room_len) = (buffer.as_mut_ptr(), buffer.len());

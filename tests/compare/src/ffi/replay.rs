@@ -1,4 +1,4 @@
-//! The call of replay. The table too is between guard words.
+//! The calls of replay. The table too is between guard words.
 
 use super::*;
 
@@ -10,6 +10,12 @@ pub const REPLAY_LEN: usize = 256 * ROW_LEN;
 
 pub type SeriesTable = [u64; REPLAY_LEN];
 
+/// Numbers in `out`: the refusal's place, series, orphans, records skipped.
+pub const OUT_LEN: usize = 4;
+
+/// A replay: the segment, the buffer, the table, `out`.
+type Call = unsafe extern "C" fn(*const u8, usize, *mut u8, usize, *mut u64, *mut u64) -> u32;
+
 extern "C" {
     pub(super) fn depot_wal_replay(
         segment: *const u8,
@@ -19,12 +25,37 @@ extern "C" {
         table: *mut u64,
         out: *mut u64,
     ) -> u32;
+    fn depot_wal_replay_strict(
+        segment: *const u8,
+        segment_len: usize,
+        buffer: *mut u8,
+        buffer_len: usize,
+        table: *mut u64,
+        out: *mut u64,
+    ) -> u32;
 }
 
-pub fn replay(segment: &[u8], buffer: &mut [u8], table: &mut SeriesTable) -> Answer<3> {
+pub fn replay(segment: &[u8], buffer: &mut [u8], table: &mut SeriesTable) -> Answer<OUT_LEN> {
+    replay_by(depot_wal_replay, segment, buffer, table)
+}
+
+pub fn replay_strict(
+    segment: &[u8],
+    buffer: &mut [u8],
+    table: &mut SeriesTable,
+) -> Answer<OUT_LEN> {
+    replay_by(depot_wal_replay_strict, segment, buffer, table)
+}
+
+fn replay_by(
+    call: Call,
+    segment: &[u8],
+    buffer: &mut [u8],
+    table: &mut SeriesTable,
+) -> Answer<OUT_LEN> {
     let (length, buffer_len) = (segment.len(), buffer.len());
     let (segment, buffer) = (pointer(segment), pointer_mut(buffer));
     lend(table, |table| {
-        answer(|out| unsafe { depot_wal_replay(segment, length, buffer, buffer_len, table, out) })
+        answer(|out| unsafe { call(segment, length, buffer, buffer_len, table, out) })
     })
 }

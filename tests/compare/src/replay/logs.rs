@@ -140,6 +140,9 @@ pub struct World {
     pub ids: Vec<u64>,
     /// Times that rows had lately.
     times: [i64; 4],
+    /// Some of its records are of types that are not known. These stop a strict replay, so most
+    /// logs have none.
+    newer: bool,
 }
 
 impl World {
@@ -148,7 +151,8 @@ impl World {
         let ids = some_ids(rng, count);
         let now = any_number(rng, 1_000) as i64;
         let times = [now; 4];
-        World { ids, times }
+        let newer = rng.once_in(4);
+        World { ids, times, newer }
     }
 
     /// An id of this log, or now and then one that only looks like it.
@@ -203,6 +207,9 @@ impl World {
     /// so the kinds that may be are rare.
     pub fn body(&mut self, rng: &mut Rng, most: usize) -> Vec<u8> {
         let count = rng.below(most + 1);
+        if self.newer && rng.once_in(8) {
+            return unknown_body(rng);
+        }
         match rng.below(64) {
             0..=13 => self.series_body(rng, count),
             14..=37 => samples(&self.list(rng, count, World::row)),
@@ -273,6 +280,24 @@ impl World {
         }
         bytes
     }
+}
+
+/// A body of a type that is not known; its other bytes are any, or those of a good body.
+fn unknown_body(rng: &mut Rng) -> Vec<u8> {
+    let mut bytes = match rng.below(3) {
+        0 => vec![0],
+        1 => samples(&[(7, 1_000, 1), (8, 1_000, 2)]),
+        _ => {
+            let length = 1 + rng.below(60);
+            rng.bytes(length)
+        }
+    };
+    bytes[0] = match rng.below(4) {
+        0 => rng.pick(&[0, 9, 255]),
+        1 => 9 + rng.below(247) as u8,
+        _ => rng.pick(&[5, 200]),
+    };
+    bytes
 }
 
 /// No, one or two pairs of strings, all from the same text of 8 bytes.

@@ -2,7 +2,7 @@
 
 use crate::timing::{self, Rounds};
 use compare::ffi::bare;
-use compare::ffi::replay::{SeriesTable, REPLAY_LEN};
+use compare::ffi::replay::{SeriesTable, OUT_LEN, REPLAY_LEN};
 use compare::replay::numbers_of;
 use compare::rng::Rng;
 use reference::body::{self, NewEntry, Sample, SeriesId, Strings, Timestamp, SAMPLES, SERIES};
@@ -186,7 +186,7 @@ impl Logs {
     /// Series and orphans.
     fn ours(&mut self, log: usize) -> [u64; 2] {
         let bytes = black_box(&self.logs[log].bytes);
-        let mut out = [0; 3];
+        let mut out = [0; OUT_LEN];
         let number = bare::replay(bytes, &mut self.buffer, &mut self.table, &mut out);
         assert_eq!((number, out[0]), (0, 0), "the log is good");
         [out[1], out[2]]
