@@ -261,6 +261,7 @@ struct depot_wal_replayed {
     uint64_t error_at; /* the place of the error, else 0 */
     uint64_t series;   /* how many series the table has, which are its first rows */
     uint64_t orphans;  /* how many samples had an id that was not entered before them */
+    uint64_t skipped;  /* how many records were skipped, since their body type is unknown */
 };
 
 /* A row of the table of a replay: a series, and what it had last. */
@@ -279,7 +280,7 @@ typedef char depot_wal_layout[
     sizeof(struct depot_wal_record) == 3 * 8 && sizeof(struct depot_wal_fed) == 1 * 8 &&
     sizeof(struct depot_wal_count) == 1 * 8 &&
     sizeof(struct depot_wal_entry) == 8 * 8 && sizeof(struct depot_wal_string) == 2 * 8 &&
-    sizeof(struct depot_wal_replayed) == 3 * 8 && sizeof(struct depot_wal_series) == 5 * 8
+    sizeof(struct depot_wal_replayed) == 4 * 8 && sizeof(struct depot_wal_series) == 5 * 8
         ? 1 : -1];
 
 /* ---- the segment ---- */
@@ -527,14 +528,17 @@ depot_wal_status depot_wal_string_at(const uint8_t *body, size_t len, size_t pla
  *     an id that is not entered, or for a series without rows, changes nothing; nor does one with
  *     min above max.
  *   - Exemplars and metadata change nothing.
+ *   - A record whose first byte is not in enum depot_wal_type is skipped, and counted in `skipped`:
+ *     types may be added to the format, and an older box goes on.
  * Each record counts wholly or not at all.
- * Result: how many series and orphans there are.
+ * Result: how many series, orphans and skipped records there are.
  * Errors, with error_at. The table is then that of the records before:
  *   DEPOT_WAL_BAD_BUFFER   0         the segment is above DEPOT_WAL_SEGMENT_MAX, or the buffer
- *                                    below DEPOT_WAL_RECORD_MAX; there are no series, no orphans
+ *                                    below DEPOT_WAL_RECORD_MAX; all counts are 0
  *   of depot_wal_read      as there  a record cannot be read; DEPOT_WAL_TORN too: the table then has
  *                                    every whole record
- *   of depot_wal_body_check  record  the body of a record cannot be read
+ *   of depot_wal_body_check  record  the body of a record cannot be read; never
+ *                                    DEPOT_WAL_UNKNOWN_TYPE
  *   DEPOT_WAL_TABLE_FULL   record    the record brings more than DEPOT_WAL_SERIES_MAX series
  * "record" is the start of that record. The last two are checked for each record, in this order.
  * Changes: the rows of the table up to `series` (the others stay), *out, and the buffer, which each
@@ -543,6 +547,13 @@ depot_wal_status depot_wal_replay(const uint8_t *segment, size_t segment_len,
                                   uint8_t *buffer, size_t buffer_len,
                                   struct depot_wal_series table[DEPOT_WAL_SERIES_MAX],
                                   struct depot_wal_replayed *out);
+
+/* The same, but strict, for a bench that must see every body: a record of an unknown type is not
+ * skipped, but an error, as any other body that cannot be read. `skipped` is 0. */
+depot_wal_status depot_wal_replay_strict(const uint8_t *segment, size_t segment_len,
+                                         uint8_t *buffer, size_t buffer_len,
+                                         struct depot_wal_series table[DEPOT_WAL_SERIES_MAX],
+                                         struct depot_wal_replayed *out);
 
 #ifdef __cplusplus
 }

@@ -121,6 +121,7 @@ static void layouts(void)
     FIELD(depot_wal_replayed, 0, error_at);
     FIELD(depot_wal_replayed, 1, series);
     FIELD(depot_wal_replayed, 2, orphans);
+    FIELD(depot_wal_replayed, 3, skipped);
     FIELD(depot_wal_series, 0, id);
     FIELD(depot_wal_series, 1, rows);
     FIELD(depot_wal_series, 2, time);
@@ -1151,22 +1152,34 @@ static size_t log_entries(uint8_t type, const struct entry *entries, size_t n)
     log_entries(type, (struct entry[]){__VA_ARGS__}, \
                 sizeof((struct entry[]){__VA_ARGS__}) / sizeof(struct entry))
 
-/* Replays the log. The first n rows of the table are as given, the others unchanged, and the
- * buffer is as the reads left it. */
-static void replays(int line, depot_wal_status status, uint64_t at, uint64_t orphans,
-                    const struct depot_wal_series *rows, size_t n)
+/* Replays the log by either call. The first n rows of the table are as given, the others unchanged,
+ * and the buffer is as the reads left it. */
+typedef depot_wal_status replayer(const uint8_t *, size_t, uint8_t *, size_t,
+                                  struct depot_wal_series *, struct depot_wal_replayed *);
+
+static void replays_by(int line, replayer *replay, depot_wal_status status, uint64_t at,
+                       uint64_t orphans, uint64_t skipped, const struct depot_wal_series *rows,
+                       size_t n)
 {
     static struct depot_wal_series got[DEPOT_WAL_SERIES_MAX + 1];
     memset(got, PATTERN, sizeof got);
     memset(buffer, 0x5C, sizeof buffer);
-    check(line, GIVES(depot_wal_replay(segment, log_len, buffer, sizeof buffer, got,
-                                       &out->replayed),
-                      status, REPLAYED(.error_at = at, .series = n, .orphans = orphans)),
+    check(line, GIVES(replay(segment, log_len, buffer, sizeof buffer, got, &out->replayed), status,
+                      REPLAYED(.error_at = at, .series = n, .orphans = orphans,
+                               .skipped = skipped)),
           "replay");
     check(line, n == 0 || memcmp(got, rows, n * sizeof *rows) == 0, "the series");
     check(line, all((const uint8_t *)(got + n), sizeof got - n * sizeof *got, PATTERN),
           "the other rows are unchanged");
     check(line, memcmp(buffer, left, sizeof buffer) == 0, "the buffer is as the reads left it");
+}
+
+/* A log without unknown types: both calls do the same. */
+static void replays(int line, depot_wal_status status, uint64_t at, uint64_t orphans,
+                    const struct depot_wal_series *rows, size_t n)
+{
+    replays_by(line, depot_wal_replay, status, at, orphans, 0, rows, n);
+    replays_by(line, depot_wal_replay_strict, status, at, orphans, 0, rows, n);
 }
 #define SERIES(...) \
     (struct depot_wal_series[]){__VA_ARGS__}, \
@@ -1242,14 +1255,38 @@ static void replayed_limit(void)
     replays(__LINE__, DEPOT_WAL_TABLE_FULL, at, 1, rows, DEPOT_WAL_SERIES_MAX);
 }
 
+/* Records of unknown types: skipped and counted, or the end of a strict replay. */
+static void replayed_unknown(void)
+{
+    uint8_t bytes[8];
+    new_log();
+    LOG(1, {.id = 7});
+    size_t at = log_bytes(bytes, put(bytes, "05"));
+    static uint8_t stopped[sizeof left]; /* a strict replay reads no further */
+    memcpy(stopped, left, sizeof left);
+    LOG(2, {.id = 7, .time = 1, .bits = 2}, {.id = 8, .time = 1});
+    log_bytes(bytes, put(bytes, "C8 01 02"));
+    log_bytes(bytes, put(bytes, "00 FF"));
+    replays_by(__LINE__, depot_wal_replay, DONE, 0, 1, 3,
+               SERIES({.id = 7, .rows = 1, .time = 1, .bits = 2}));
+    /* any other body that cannot be read still stops it, with the records skipped before */
+    size_t bad = log_bytes(bytes, put(bytes, "02 00"));
+    log_bytes(bytes, put(bytes, "05"));
+    memcpy(left, (uint8_t[]){0x02, 0x00}, 2);
+    replays_by(__LINE__, depot_wal_replay, DEPOT_WAL_SHORT, bad, 1, 3,
+               SERIES({.id = 7, .rows = 1, .time = 1, .bits = 2}));
+    memcpy(left, stopped, sizeof left);
+    replays_by(__LINE__, depot_wal_replay_strict, DEPOT_WAL_UNKNOWN_TYPE, at, 0, 0,
+               SERIES({.id = 7}));
+}
+
 /* What stops a replay: the records before stand, and nothing of the one at fault. */
 static void replay_errors(void)
 {
     static const struct {
         const char *body;
         depot_wal_status status;
-    } faults[] = {{"05", DEPOT_WAL_UNKNOWN_TYPE},
-                  {"01 0000000000000009 00  00", DEPOT_WAL_SHORT},
+    } faults[] = {{"01 0000000000000009 00  00", DEPOT_WAL_SHORT},
                   {"06 FFFFFFFFFFFFFFFFFF02", DEPOT_WAL_BAD_VARINT}};
     static struct depot_wal_series rows[DEPOT_WAL_SERIES_MAX];
     uint8_t bytes[64];
@@ -1290,6 +1327,9 @@ static void replay_errors(void)
                 DEPOT_WAL_BAD_BUFFER, REPLAYED(.error_at = 0)));
     CHECK(GIVES(depot_wal_replay(NULL, 0, NULL, 0, rows, &out->replayed), DEPOT_WAL_BAD_BUFFER,
                 REPLAYED(.error_at = 0)));
+    CHECK(GIVES(depot_wal_replay_strict(segment, log_len, buffer, DEPOT_WAL_RECORD_MAX - 1, rows,
+                                        &out->replayed),
+                DEPOT_WAL_BAD_BUFFER, REPLAYED(.error_at = 0)));
     CHECK(all((const uint8_t *)rows, sizeof rows, PATTERN));
     CHECK(all(buffer, sizeof buffer, 0x5C));
 }
@@ -1325,6 +1365,7 @@ int main(int argc, char **argv)
     replayed_rows();
     replayed_tombstones();
     replayed_limit();
+    replayed_unknown();
     replay_errors();
     long cases = damage(argc > 1 ? argv[1] : "tests/damage.txt");
     printf("calls: %ld checks passed, %ld cases of named damage among them\n", checks, cases);

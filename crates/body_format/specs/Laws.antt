@@ -6,6 +6,7 @@ pub mod Kept
 pub mod Types
 pub mod Lists
 pub mod OfType
+pub mod Faults
 pub mod Strings
 pub mod Entries
 pub mod Additions
