@@ -1,5 +1,7 @@
-//! The five record bodies (FORMAT 8 to 11), built and read.
+//! The seven record bodies (FORMAT 8 to 11 and document 02 [7]), built and read. What types 7 and 8
+//! have of their own stands in `histogram.rs`.
 
+use crate::histogram::{self, NewHistogram};
 use crate::refusal::*;
 use crate::varint::{self, Fault};
 use std::mem::take;
@@ -12,8 +14,11 @@ pub const SAMPLES: u8 = 2;
 pub const TOMBSTONES: u8 = 3;
 pub const EXEMPLARS: u8 = 4;
 pub const METADATA: u8 = 6;
+pub const HISTOGRAMS: u8 = 7;
+pub const FLOAT_HISTOGRAMS: u8 = 8;
 
-/// Where the rows of types 2 and 4 begin: after the type, the first id and the first timestamp.
+/// Where the rows of types 2, 4, 7 and 8 begin: after the type, the first id and the first
+/// timestamp.
 const ROWS: usize = 17;
 
 #[derive(Clone, Copy, Debug, Default, PartialEq, Eq)]
@@ -23,24 +28,28 @@ pub struct SeriesId(pub u64);
 pub struct Timestamp(pub i64);
 
 fn is_known(kind: u8) -> bool {
-    matches!(kind, SERIES | SAMPLES | TOMBSTONES | EXEMPLARS | METADATA)
+    matches!(kind, SERIES..=EXEMPLARS | METADATA..=FLOAT_HISTOGRAMS)
 }
 
-/// Types 2 and 4 open with a first id and a first timestamp.
+/// Types 2, 4, 7 and 8 open with a first id and a first timestamp.
 fn has_rows(kind: u8) -> bool {
-    kind == SAMPLES || kind == EXEMPLARS
+    matches!(kind, SAMPLES | EXEMPLARS | HISTOGRAMS | FLOAT_HISTOGRAMS)
+}
+
+pub(crate) fn has_histograms(kind: u8) -> bool {
+    kind == HISTOGRAMS || kind == FLOAT_HISTOGRAMS
 }
 
 /// The first id and the first timestamp, which deltas are counted from modulo 2^64.
 #[derive(Clone, Copy)]
-struct First {
+pub(crate) struct First {
     id: SeriesId,
     time: Timestamp,
 }
 
 impl First {
     /// Those in bytes 1 to 16.
-    fn of(body: &[u8]) -> First {
+    pub(crate) fn of(body: &[u8]) -> First {
         let (id, time) = body[1..ROWS].split_at(8);
         let eight = |bytes: &[u8]| bytes.try_into().expect("eight bytes");
         First {
@@ -90,6 +99,8 @@ pub enum NewEntry<'a> {
     Exemplar(Sample, Strings<'a>),
     /// With the metric type.
     Metadata(SeriesId, u8, Strings<'a>),
+    Histogram(&'a NewHistogram<'a, i64>),
+    FloatHistogram(&'a NewHistogram<'a, u64>),
 }
 
 /// A sample; the value's 64 bits are carried unread.
@@ -130,9 +141,11 @@ pub fn add(buffer: &mut [u8], state: State, entry: &NewEntry) -> Result<State, R
             size
         }
         NewEntry::Sample(sample) => {
-            let row = Row::new(sample, body);
-            let size = row.size();
-            Writer::new(room, used, size)?.row(&row);
+            let row = Row::new(sample.id, sample.time, body);
+            let size = row.size() + 8;
+            let mut writer = Writer::new(room, used, size)?;
+            writer.row(&row);
+            writer.eight(sample.bits);
             size
         }
         NewEntry::Tombstone(id, min, max) => {
@@ -145,10 +158,11 @@ pub fn add(buffer: &mut [u8], state: State, entry: &NewEntry) -> Result<State, R
             size
         }
         NewEntry::Exemplar(sample, strings) => {
-            let row = Row::new(sample, body);
-            let size = row.size() + strings.size()?;
+            let row = Row::new(sample.id, sample.time, body);
+            let size = row.size() + 8 + strings.size()?;
             let mut writer = Writer::new(room, used, size)?;
             writer.row(&row);
+            writer.eight(sample.bits);
             writer.strings(strings);
             size
         }
@@ -160,13 +174,15 @@ pub fn add(buffer: &mut [u8], state: State, entry: &NewEntry) -> Result<State, R
             writer.strings(strings);
             size
         }
+        NewEntry::Histogram(new) => histogram::add(new, body, room)?,
+        NewEntry::FloatHistogram(new) => histogram::add(new, body, room)?,
     };
     let used = used + size;
     Ok(State { kind, used })
 }
 
-/// BadPlace (FORMAT 10.5): the bytes used are 0, more than the buffer has, or 2 to 16 for types 2
-/// and 4, or the buffer's first byte is not the type.
+/// BadPlace (FORMAT 10.5): the bytes used are 0, more than the buffer has, or 2 to 16 for types 2,
+/// 4, 7 and 8, or the buffer's first byte is not the type.
 fn check_state(buffer: &[u8], state: State) -> Result<(), Refusal> {
     let State { kind, used } = state;
     let inside_first = has_rows(kind) && (2..ROWS).contains(&used);
@@ -184,6 +200,8 @@ impl NewEntry<'_> {
             NewEntry::Tombstone(..) => TOMBSTONES,
             NewEntry::Exemplar(..) => EXEMPLARS,
             NewEntry::Metadata(..) => METADATA,
+            NewEntry::Histogram(..) => HISTOGRAMS,
+            NewEntry::FloatHistogram(..) => FLOAT_HISTOGRAMS,
         }
     }
 }
@@ -209,18 +227,16 @@ impl Strings<'_> {
     }
 }
 
-/// A row as it is written, its deltas coded.
-struct Row {
+/// How a row begins, its deltas coded. What follows is up to its type.
+pub(crate) struct Row {
     /// Written before it if the body has none yet.
     first: Option<First>,
     id_delta: u64,
     time_delta: u64,
-    bits: u64,
 }
 
 impl Row {
-    fn new(sample: &Sample, body: &[u8]) -> Row {
-        let Sample { id, time, bits } = *sample;
+    pub(crate) fn new(id: SeriesId, time: Timestamp, body: &[u8]) -> Row {
         let (first, (id_delta, time_delta)) = match body.len() {
             1 => (Some(First { id, time }), (0, 0)),
             _ => (None, First::of(body).deltas_to(id, time)),
@@ -229,25 +245,24 @@ impl Row {
             first,
             id_delta,
             time_delta,
-            bits,
         }
     }
 
-    fn size(&self) -> usize {
+    pub(crate) fn size(&self) -> usize {
         let first = if self.first.is_some() { 16 } else { 0 };
         let id_delta = varint::uvarint_length(self.id_delta);
         let time_delta = varint::uvarint_length(self.time_delta);
-        first + id_delta + time_delta + 8
+        first + id_delta + time_delta
     }
 }
 
 /// Writes one field after the other; it holds the room left. What a row needs is inlined, so that
 /// this stays in registers.
-struct Writer<'a>(&'a mut [u8]);
+pub(crate) struct Writer<'a>(&'a mut [u8]);
 
 impl<'a> Writer<'a> {
     /// Over the first bytes of the room after those used. Refusals in order: 9, 11.
-    fn new(room: &'a mut [u8], used: usize, size: usize) -> Result<Self, Refusal> {
+    pub(crate) fn new(room: &'a mut [u8], used: usize, size: usize) -> Result<Self, Refusal> {
         if used + size > BODY_MAX {
             return refuse(TOO_LONG, used);
         }
@@ -257,18 +272,18 @@ impl<'a> Writer<'a> {
         }
     }
 
-    fn bytes(&mut self, bytes: &[u8]) {
+    pub(crate) fn bytes(&mut self, bytes: &[u8]) {
         let (front, left) = take(&mut self.0).split_at_mut(bytes.len());
         front.copy_from_slice(bytes);
         self.0 = left;
     }
 
-    fn eight(&mut self, number: u64) {
+    pub(crate) fn eight(&mut self, number: u64) {
         self.bytes(&number.to_be_bytes());
     }
 
     #[inline(always)]
-    fn uvarint(&mut self, number: u64) {
+    pub(crate) fn uvarint(&mut self, number: u64) {
         let length = varint::put_uvarint(number, self.0);
         self.0 = &mut take(&mut self.0)[length..];
     }
@@ -286,14 +301,13 @@ impl<'a> Writer<'a> {
     }
 
     #[inline(always)]
-    fn row(&mut self, row: &Row) {
+    pub(crate) fn row(&mut self, row: &Row) {
         if let Some(first) = row.first {
             self.eight(first.id.0);
             self.eight(first.time.0 as u64);
         }
         self.uvarint(row.id_delta);
         self.uvarint(row.time_delta);
-        self.eight(row.bits);
     }
 }
 
@@ -308,7 +322,7 @@ pub struct Entry {
     pub time: Timestamp,
     /// A tombstone's max time.
     pub max: Timestamp,
-    /// The value of a row.
+    /// The value of a row; of a histogram, its sum.
     pub bits: u64,
     pub metric_type: u8,
     pub string_count: u64,
@@ -321,7 +335,13 @@ pub struct Entry {
 /// The number of entries. Refusals in order: 21, 20, then the first fault from the left.
 pub fn check(body: &[u8]) -> Result<usize, Refusal> {
     let mut count = 0;
-    walk(body, |_| count += 1)?;
+    match body.first() {
+        // The types with many rows have a walk of their own.
+        Some(&SAMPLES) => walk_samples(body, |_| count += 1)?,
+        Some(&HISTOGRAMS) => histogram::walk::<i64>(body, |_| count += 1)?,
+        Some(&FLOAT_HISTOGRAMS) => histogram::walk::<u64>(body, |_| count += 1)?,
+        _ => walk(body, |_| count += 1)?,
+    }
     Ok(count)
 }
 
@@ -345,7 +365,7 @@ pub(crate) fn walk_samples(body: &[u8], mut each: impl FnMut(Sample)) -> Result<
     }
     let first = First::of(body);
     while !cursor.rest.is_empty() {
-        each(cursor.row(first)?);
+        each(cursor.sample(first)?);
     }
     Ok(())
 }
@@ -386,7 +406,7 @@ pub fn fill_samples(body: &[u8], list: &mut [Sample]) -> Result<usize, Refusal> 
 }
 
 /// The body's type. Refusals in order: 21, 20.
-fn kind_of(body: &[u8]) -> Result<u8, Refusal> {
+pub(crate) fn kind_of(body: &[u8]) -> Result<u8, Refusal> {
     match body.first() {
         None => refuse(EMPTY_BODY, 0),
         Some(&kind) if is_known(kind) => Ok(kind),
@@ -395,16 +415,17 @@ fn kind_of(body: &[u8]) -> Result<u8, Refusal> {
 }
 
 /// Reads one field after the other; a fault is reported at the field's first byte.
-struct Cursor<'a> {
-    body: &'a [u8],
+#[derive(Clone, Copy)]
+pub(crate) struct Cursor<'a> {
+    pub(crate) body: &'a [u8],
     kind: u8,
     /// The bytes that are not read yet.
-    rest: &'a [u8],
+    pub(crate) rest: &'a [u8],
 }
 
 impl<'a> Cursor<'a> {
     /// At a place of the body. Refusals in order: 21, 20, 2.
-    fn at(body: &'a [u8], place: usize) -> Result<Self, Refusal> {
+    pub(crate) fn at(body: &'a [u8], place: usize) -> Result<Self, Refusal> {
         let kind = kind_of(body)?;
         match body.get(place..) {
             Some(rest) if place > 0 => Ok(Cursor { body, kind, rest }),
@@ -412,9 +433,9 @@ impl<'a> Cursor<'a> {
         }
     }
 
-    /// At a place where an entry may begin; place 1 of types 2 and 4 is before the first id and the
-    /// first timestamp, which are passed. Refusals in order: 21, 20, 2, then the fault.
-    fn at_entry(body: &'a [u8], place: usize) -> Result<Self, Refusal> {
+    /// At a place where an entry may begin; place 1 of types 2, 4, 7 and 8 is before the first id
+    /// and the first timestamp, which are passed. Refusals in order: 21, 20, 2, then the fault.
+    pub(crate) fn at_entry(body: &'a [u8], place: usize) -> Result<Self, Refusal> {
         let mut cursor = Cursor::at(body, place)?;
         if has_rows(cursor.kind) && place < ROWS {
             if place > 1 {
@@ -428,11 +449,11 @@ impl<'a> Cursor<'a> {
         Ok(cursor)
     }
 
-    fn place(&self) -> usize {
+    pub(crate) fn place(&self) -> usize {
         self.body.len() - self.rest.len()
     }
 
-    fn byte(&mut self) -> Result<u8, Refusal> {
+    pub(crate) fn byte(&mut self) -> Result<u8, Refusal> {
         let Some((&byte, rest)) = self.rest.split_first() else {
             return refuse(SHORT, self.place());
         };
@@ -440,7 +461,7 @@ impl<'a> Cursor<'a> {
         Ok(byte)
     }
 
-    fn eight(&mut self) -> Result<u64, Refusal> {
+    pub(crate) fn eight(&mut self) -> Result<u64, Refusal> {
         let Some((&bytes, rest)) = self.rest.split_first_chunk() else {
             return refuse(SHORT, self.place());
         };
@@ -449,7 +470,7 @@ impl<'a> Cursor<'a> {
     }
 
     /// Most numbers take one byte: that comes first.
-    fn uvarint(&mut self) -> Result<u64, Refusal> {
+    pub(crate) fn uvarint(&mut self) -> Result<u64, Refusal> {
         if let [byte @ ..=0x7F, rest @ ..] = self.rest {
             self.rest = rest;
             return Ok(u64::from(*byte));
@@ -464,7 +485,7 @@ impl<'a> Cursor<'a> {
         }
     }
 
-    fn varint(&mut self) -> Result<i64, Refusal> {
+    pub(crate) fn varint(&mut self) -> Result<i64, Refusal> {
         Ok(varint::unzigzag(self.uvarint()?))
     }
 
@@ -480,10 +501,16 @@ impl<'a> Cursor<'a> {
         Ok(string)
     }
 
+    /// How a row begins: its id and its time.
     #[inline(always)]
-    fn row(&mut self, first: First) -> Result<Sample, Refusal> {
+    pub(crate) fn row(&mut self, first: First) -> Result<(SeriesId, Timestamp), Refusal> {
         let (id_delta, time_delta) = (self.varint()?, self.varint()?);
-        let (id, time) = first.plus(id_delta, time_delta);
+        Ok(first.plus(id_delta, time_delta))
+    }
+
+    #[inline(always)]
+    fn sample(&mut self, first: First) -> Result<Sample, Refusal> {
+        let (id, time) = self.row(first)?;
         let bits = self.eight()?;
         Ok(Sample { id, time, bits })
     }
@@ -506,14 +533,18 @@ impl<'a> Cursor<'a> {
                 entry.id = SeriesId(self.uvarint()?);
                 entry.metric_type = self.byte()?;
             }
+            HISTOGRAMS | FLOAT_HISTOGRAMS => {
+                // By value: the cursor stays in registers for the other types.
+                let (read, rest) = histogram::read(self.kind, *self)?;
+                (entry.id, entry.time, entry.bits) = (read.id, read.time, read.sum);
+                self.rest = rest;
+            }
             _ => {
-                let Sample { id, time, bits } = self.row(First::of(self.body))?;
+                let Sample { id, time, bits } = self.sample(First::of(self.body))?;
                 (entry.id, entry.time, entry.bits) = (id, time, bits);
             }
         }
-        if self.kind == SAMPLES || self.kind == TOMBSTONES {
-            entry.strings = self.place();
-        } else {
+        if matches!(self.kind, SERIES | EXEMPLARS | METADATA) {
             let pairs = self.uvarint()?;
             entry.strings = self.place();
             // Counted pair by pair: 2n may not fit 64 bits, but then a string is short long before.
@@ -522,6 +553,8 @@ impl<'a> Cursor<'a> {
                 self.string()?;
             }
             entry.string_count = 2 * pairs;
+        } else {
+            entry.strings = self.place();
         }
         entry.after = self.place();
         Ok(entry)

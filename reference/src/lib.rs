@@ -9,6 +9,7 @@ pub mod body;
 pub mod crc32c;
 pub mod damage;
 pub mod feed;
+pub mod histogram;
 pub mod listing;
 pub mod refusal;
 pub mod replay;

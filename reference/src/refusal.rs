@@ -28,6 +28,8 @@ pub const BAD_VARINT: u32 = 23;
 pub const LIST_FULL: u32 = 24;
 pub const BAD_LIST: u32 = 25;
 pub const WRONG_KIND: u32 = 26;
+/// Document 02 [7]: a field of a histogram does not fit 32 bits.
+pub const BAD_RANGE: u32 = 27;
 /// Document 02 [3]: a record brings a series more than the table has rows.
 pub const TABLE_FULL: u32 = 28;
 

@@ -4,9 +4,10 @@
 mod rng;
 
 use reference::body::{
-    self, Entry, NewEntry, Sample, SeriesId, Strings, Timestamp, EXEMPLARS, METADATA, SAMPLES,
-    SERIES, TOMBSTONES,
+    self, Entry, NewEntry, Sample, SeriesId, Strings, Timestamp, EXEMPLARS, FLOAT_HISTOGRAMS,
+    HISTOGRAMS, METADATA, SAMPLES, SERIES, TOMBSTONES,
 };
+use reference::histogram::{NewHistogram, Spans};
 use reference::refusal::*;
 use reference::replay::{replay, replay_strict, Replayed, Row, Table, SERIES_MAX};
 use reference::segment::{self, Reading, HEADER, PAGE, RECORD_MAX, SEGMENT_MAX};
@@ -60,6 +61,35 @@ fn metadata(ids: &[u64]) -> Vec<u8> {
     let entries = ids.iter();
     let entries = entries.map(|&id| NewEntry::Metadata(SeriesId(id), 1, LABEL));
     body(METADATA, &entries.collect::<Vec<_>>())
+}
+
+/// Histograms of one type with these ids, times and sums.
+fn histograms(kind: u8, rows: &[Given]) -> Vec<u8> {
+    let floats: Vec<_> = rows.iter().map(|&row| histogram(row, &[1, 2])).collect();
+    let signed: Vec<_> = rows.iter().map(|&row| histogram(row, &[1, -2])).collect();
+    let entries: Vec<NewEntry> = match kind {
+        HISTOGRAMS => signed.iter().map(NewEntry::Histogram).collect(),
+        _ => floats.iter().map(NewEntry::FloatHistogram).collect(),
+    };
+    body(kind, &entries)
+}
+
+fn histogram<B>((id, time, sum): Given, buckets: &[B]) -> NewHistogram<'_, B> {
+    let (offsets, lengths) = (&[-1], &[2]);
+    NewHistogram {
+        id: SeriesId(id),
+        time: Timestamp(time),
+        hint: 0,
+        schema: 3,
+        zero_threshold: 0,
+        zero_count: 1,
+        count: 4,
+        sum,
+        positive_spans: Spans { offsets, lengths },
+        negative_spans: Spans { offsets, lengths },
+        positive_buckets: buckets,
+        negative_buckets: buckets,
+    }
 }
 
 /// An id, a min and a max time each.
@@ -178,8 +208,8 @@ enum Mode {
     Strict,
 }
 
-/// Replays a log in both modes, and answers what the default gave. Where nothing is skipped they are
-/// the same; else the strict one ends at the first record that the default skips.
+/// Replays a log in both modes, and answers what the default gave. Where nothing is skipped they
+/// are the same; else the strict one ends at the first record that the default skips.
 fn compare(segment: &[u8]) -> (Replayed, Vec<Row>) {
     let default = compare_as(Mode::Default, segment);
     let strict = compare_as(Mode::Strict, segment);
@@ -318,12 +348,15 @@ fn a_row_that_is_not_later_is_counted_only() {
 }
 
 #[test]
-fn exemplars_and_metadata_change_nothing() {
+fn what_changes_nothing() {
+    let rows = [(7, 6, 60), (8, 6, 60)];
     let bodies = [
         series([7]),
         samples(&[(7, 5, 50)]),
-        exemplars(&[(7, 6, 60), (8, 6, 60)]),
+        exemplars(&rows),
         metadata(&[7, 9]),
+        histograms(HISTOGRAMS, &rows),
+        histograms(FLOAT_HISTOGRAMS, &rows),
     ];
     assert_eq!(replay_good(&bodies), (vec![row(7, 1, 5, 50)], 0));
 }
@@ -476,7 +509,7 @@ fn an_empty_record() {
 
 /// The types that no body has.
 fn unknown_types() -> impl Iterator<Item = u8> {
-    (0..=255).filter(|kind| !matches!(kind, 1 | 2 | 3 | 4 | 6))
+    (0..=255).filter(|kind| !matches!(kind, 1 | 2 | 3 | 4 | 6 | 7 | 8))
 }
 
 #[test]
@@ -514,6 +547,8 @@ fn what_is_not_skipped() {
     for (last, number) in [
         (vec![SERIES, 0], SHORT),
         ([&[METADATA], &[0xFF; 10][..]].concat(), BAD_VARINT),
+        (out_of_range(HISTOGRAMS), BAD_RANGE),
+        (out_of_range(FLOAT_HISTOGRAMS), BAD_RANGE),
         (series([257]), TABLE_FULL),
     ] {
         let bodies = [vec![full.clone()], skipped.clone(), vec![last]].concat();
@@ -532,6 +567,13 @@ fn what_is_not_skipped() {
     assert_eq!(replayed.skipped, 2);
 }
 
+/// A body whose first histogram has a schema of 2^31, in zigzag form; no more of it is read.
+fn out_of_range(kind: u8) -> Vec<u8> {
+    let mut body = histograms(kind, &[(7, 5, 50)]);
+    body.splice(20.., [0x80, 0x80, 0x80, 0x80, 0x10]);
+    body
+}
+
 /// A skipped record of several fragments leaves its bytes in the record buffer, as the reads left
 /// them; `compare` looks at them.
 #[test]
@@ -542,13 +584,15 @@ fn a_long_record_is_skipped() {
 }
 
 /// A body of each type, with entries that would change the table.
-fn telling() -> [Vec<u8>; 5] {
+fn telling() -> [Vec<u8>; 7] {
     [
         series([8, 9, 300]),
         samples(&[(7, 6, 60), (8, 1_000_000, 80), (7, 7, 70)]),
         tombstones(&[(7, 0, 9), (7, i64::MIN, i64::MAX)]),
         exemplars(&[(7, 6, 60), (7, 7, 70)]),
         metadata(&[7, 300]),
+        histograms(HISTOGRAMS, &[(7, 6, 60), (8, 7, 70)]),
+        histograms(FLOAT_HISTOGRAMS, &[(7, 6, 60), (8, 7, 70)]),
     ]
 }
 
@@ -690,6 +734,12 @@ fn rows(rng: &mut Rng) -> Vec<Given> {
     (0..count).map(row).collect()
 }
 
+fn few_rows(rng: &mut Rng) -> Vec<Given> {
+    let count = rng.below(4);
+    let row = |_| (id(rng), time(rng), rng.next());
+    (0..count).map(row).collect()
+}
+
 fn covers(rng: &mut Rng) -> Vec<(u64, i64, i64)> {
     let cover = |_| (id(rng), time(rng), time(rng));
     (0..3).map(cover).collect()
@@ -706,11 +756,12 @@ fn ids(rng: &mut Rng) -> Vec<u64> {
 
 /// A body that is good, nearly always.
 fn any_body(rng: &mut Rng) -> Vec<u8> {
-    let mut body = match rng.below(8) {
+    let mut body = match rng.below(9) {
         0 | 1 => series(ids(rng)),
         2..=4 => samples(&rows(rng)),
         5 => tombstones(&covers(rng)),
         6 => exemplars(&[(id(rng), time(rng), rng.next())]),
+        7 => histograms(rng.pick(&[HISTOGRAMS, FLOAT_HISTOGRAMS]), &few_rows(rng)),
         _ => metadata(&ids(rng)),
     };
     if rng.once_in(40) {
@@ -723,6 +774,9 @@ fn any_body(rng: &mut Rng) -> Vec<u8> {
     if rng.once_in(200) {
         let length = 1 + rng.below(30);
         body = rng.bytes(length);
+    }
+    if rng.once_in(150) {
+        body.extend([0xFF; 19]);
     }
     if rng.once_in(30) {
         body[0] = rng.pick(&[0, 5, 200, 255]);
@@ -760,7 +814,7 @@ fn generated_logs() {
     }
     // What has to be met was met.
     assert!(orphans > 0 && skipped > 0 && marked > 0);
-    for number in [BAD_SUM, TORN, SHORT, BAD_VARINT, TABLE_FULL] {
+    for number in [BAD_SUM, TORN, SHORT, BAD_VARINT, BAD_RANGE, TABLE_FULL] {
         assert!(numbers.contains(&number), "{number} in {numbers:?}");
     }
 }
@@ -807,13 +861,13 @@ type Real = (
 );
 
 const REAL: [Real; 4] = [
-    ("small_kill9", 116, None, Some((UNKNOWN_TYPE, 3_696))),
+    ("small_kill9", 0, None, None),
     // Many more series than a table holds.
     (
         "cut_enospc_kill9",
-        2,
+        0,
         Some((TABLE_FULL, 3_986)),
-        Some((UNKNOWN_TYPE, 723)),
+        Some((TABLE_FULL, 3_986)),
     ),
     // Its empty record comes before its types 5 and 200.
     (

@@ -1,5 +1,7 @@
 //! Numbers for the tests that generate their cases.
 
+#![allow(dead_code)] // none of them uses all
+
 /// Numbers that look random and are the same each time (splitmix64).
 pub struct Rng(pub u64);
 
