@@ -1,13 +1,18 @@
 //! Building and reading of bodies against the second program: answer, `out`, every caller-owned
 //! byte.
 
+mod hand_made;
+mod histograms;
 mod long_lists;
+
+pub(crate) use hand_made::{hand_made, noise, push_padded};
 
 use crate::ffi::{self, Answer, END};
 use crate::rng::Rng;
 use crate::twin::Twin;
 use crate::{Group, Outcome};
 use reference::body::{self, Entry, NewEntry, Sample, SeriesId, State, Strings, Timestamp};
+use reference::histogram::{self, Histogram};
 use reference::refusal::Refusal;
 use reference::segment::{self, Reading, RECORD_MAX};
 use reference::varint;
@@ -20,13 +25,28 @@ pub fn groups() -> Vec<Group> {
         ("body, additions at the limit", compare_limit),
         ("body, lists of additions", compare_lists),
         ("body, long lists of strings", long_lists::compare),
-        ("body, hand-made bodies", compare_hand_made),
-        ("body, random bytes", compare_noise),
+        ("body, histograms", histograms::compare_lists),
+        ("body, single histograms", histograms::compare_additions),
+        ("body, damaged histograms", histograms::compare_damage),
+        ("body, histograms out of range", histograms::compare_ranges),
+        ("body, hand-made bodies", hand_made::compare_hand_made),
+        ("body, random bytes", hand_made::compare_noise),
         ("body, long bodies", compare_long),
     ]
 }
 
-pub(crate) const KINDS: [u8; 5] = [
+pub(crate) const KINDS: [u8; 7] = [
+    body::SERIES,
+    body::SAMPLES,
+    body::TOMBSTONES,
+    body::EXEMPLARS,
+    body::METADATA,
+    body::HISTOGRAMS,
+    body::FLOAT_HISTOGRAMS,
+];
+
+/// The types that `Facts` makes entries of.
+const PLAIN: [u8; 5] = [
     body::SERIES,
     body::SAMPLES,
     body::TOMBSTONES,
@@ -137,6 +157,38 @@ impl Bench {
         self.compare(length, got, wanted, what)
     }
 
+    fn histogram_at(&mut self, length: usize, place: usize) -> Result<Answer<18>, String> {
+        let (ours, theirs) = self.body.both(0..length);
+        let got = ffi::histogram_at(ours, place);
+        let wanted = histogram_answer(histogram::histogram_at(theirs, place));
+        let what = || format!("histogram at {place} of {length} bytes");
+        self.compare(length, got, wanted, what)
+    }
+
+    fn span_at(&mut self, length: usize, place: usize) -> Result<Answer<3>, String> {
+        let (ours, theirs) = self.body.both(0..length);
+        let got = ffi::span_at(ours, place);
+        let wanted = match histogram::span_at(theirs, place) {
+            Ok((offset, length, after)) => {
+                Answer::new(0, [offset as u64, u64::from(length), after as u64])
+            }
+            Err(refusal) => Answer::new(refusal.number, [refusal.place as u64, 0, 0]),
+        };
+        let what = || format!("span at {place} of {length} bytes");
+        self.compare(length, got, wanted, what)
+    }
+
+    fn bucket_at(&mut self, length: usize, place: usize) -> Result<Answer<2>, String> {
+        let (ours, theirs) = self.body.both(0..length);
+        let got = ffi::bucket_at(ours, place);
+        let wanted = match histogram::bucket_at(theirs, place) {
+            Ok((bucket, after)) => Answer::new(0, [bucket, after as u64]),
+            Err(refusal) => Answer::new(refusal.number, [refusal.place as u64, 0]),
+        };
+        let what = || format!("bucket at {place} of {length} bytes");
+        self.compare(length, got, wanted, what)
+    }
+
     /// The answer, then every byte of the body and the guards around it.
     fn compare<const N: usize>(
         &mut self,
@@ -160,19 +212,41 @@ impl Bench {
         Ok(wanted)
     }
 
-    /// Reads the whole body: check, each entry in turn, each of its strings.
+    /// Reads the whole body: check, each entry in turn, as a histogram too, each of its strings and
+    /// of the elements of its lists.
     fn read_through(&mut self, length: usize) -> Result<(), String> {
         self.check(length)?;
         let mut place = 1;
         loop {
             let answer = self.entry_at(length, place)?;
+            let histogram = self.histogram_at(length, place)?;
             if answer.number != 0 {
                 return Ok(());
             }
             let [.., count, string, after] = answer.out;
             self.read_strings(length, string, count)?;
+            if histogram.number == 0 {
+                self.read_elements(length, &histogram.out)?;
+            }
             place = after as usize;
         }
+    }
+
+    /// Reads the spans and the buckets of a histogram, each at the place after the one before.
+    fn read_elements(&mut self, length: usize, histogram: &[u64; 18]) -> Result<(), String> {
+        for list in histogram[9..13].chunks_exact(2) {
+            let mut place = list[1] as usize;
+            for _ in 0..list[0] {
+                place = self.span_at(length, place)?.out[2] as usize;
+            }
+        }
+        for list in histogram[13..17].chunks_exact(2) {
+            let mut place = list[1] as usize;
+            for _ in 0..list[0] {
+                place = self.bucket_at(length, place)?.out[1] as usize;
+            }
+        }
+        Ok(())
     }
 
     /// Reads so many strings, the first at a place, each other one after the one before.
@@ -184,12 +258,20 @@ impl Bench {
         Ok(())
     }
 
-    /// Reads at every place, and past the end.
+    /// Reads at every place, and past the end, by every call.
     fn read_everywhere(&mut self, length: usize) -> Result<(), String> {
         for place in (0..length + 3).chain(FAR) {
-            self.entry_at(length, place)?;
-            self.string_at(length, place)?;
+            self.read_at(length, place)?;
         }
+        Ok(())
+    }
+
+    fn read_at(&mut self, length: usize, place: usize) -> Result<(), String> {
+        self.entry_at(length, place)?;
+        self.string_at(length, place)?;
+        self.histogram_at(length, place)?;
+        self.span_at(length, place)?;
+        self.bucket_at(length, place)?;
         Ok(())
     }
 }
@@ -220,8 +302,48 @@ fn entry_answer(read: Result<Option<Entry>, Refusal>) -> Answer<8> {
             ],
         ),
         Ok(None) => Answer::new(END, [0; 8]),
-        Err(refusal) => Answer::new(refusal.number, [refusal.place as u64, 0, 0, 0, 0, 0, 0, 0]),
+        Err(refusal) => place_only(refusal),
     }
+}
+
+/// The refusal's place, then zeros.
+fn place_only<const N: usize>(refusal: Refusal) -> Answer<N> {
+    let mut out = [0; N];
+    out[0] = refusal.place as u64;
+    Answer::new(refusal.number, out)
+}
+
+/// Type, id, time, hint, schema, zero threshold, zero count, count, sum, count and first place of
+/// the four lists, place after.
+fn histogram_answer(read: Result<Option<Histogram>, Refusal>) -> Answer<18> {
+    let read = match read {
+        Ok(Some(read)) => read,
+        Ok(None) => return Answer::new(END, [0; 18]),
+        Err(refusal) => return place_only(refusal),
+    };
+    let lists = [
+        read.positive_spans,
+        read.negative_spans,
+        read.positive_buckets,
+        read.negative_buckets,
+    ];
+    let mut out = [0; 18];
+    out[..9].copy_from_slice(&[
+        u64::from(read.kind),
+        read.id.0,
+        read.time.0 as u64,
+        u64::from(read.hint),
+        read.schema as u64,
+        read.zero_threshold,
+        read.zero_count,
+        read.count,
+        read.sum,
+    ]);
+    for (numbers, list) in out[9..17].chunks_exact_mut(2).zip(lists) {
+        numbers.copy_from_slice(&[list.count, list.first as u64]);
+    }
+    out[17] = read.after as u64;
+    Answer::new(0, out)
 }
 
 // ---- Building ----
@@ -342,7 +464,7 @@ fn compare_starts(rng: &mut Rng) -> Outcome {
 fn any_kind(rng: &mut Rng) -> u8 {
     match rng.below(12) {
         0 => rng.byte(),
-        _ => rng.pick(&KINDS),
+        _ => rng.pick(&PLAIN),
     }
 }
 
@@ -409,7 +531,7 @@ fn add_once(rng: &mut Rng, bench: &mut Bench, length: usize, used: usize) -> Res
         bench.body.put_at(9, &first.1.to_be_bytes());
     }
     let added = match rng.below(8) {
-        0 => rng.pick(&KINDS),
+        0 => rng.pick(&PLAIN),
         _ => kind,
     };
     let facts = Facts::any(rng, first);
@@ -431,14 +553,14 @@ fn compare_lists(rng: &mut Rng) -> Outcome {
 /// Builds a body, some additions of another type among those of its own, and hands back the bytes
 /// used.
 fn build_list(rng: &mut Rng, bench: &mut Bench) -> Result<usize, String> {
-    let kind = rng.pick(&KINDS);
+    let kind = rng.pick(&PLAIN);
     let length = 1 + rng.below(3_000);
     let first = (any_number(rng, 7), any_number(rng, 1_000) as i64);
     let mut used = bench.start(length, kind)?.out[0] as usize;
     for _ in 0..rng.below(30) {
         let facts = Facts::any(rng, first);
         let added = match rng.once_in(20) {
-            true => rng.pick(&KINDS),
+            true => rng.pick(&PLAIN),
             false => kind,
         };
         let state = State { kind, used };
@@ -448,169 +570,6 @@ fn build_list(rng: &mut Rng, bench: &mut Bench) -> Result<usize, String> {
 }
 
 // ---- Reading ----
-
-/// Bodies as no builder makes them: varints longer than needed or too long, counts and lengths that
-/// lie; whole, cut and with a byte changed.
-fn compare_hand_made(rng: &mut Rng) -> Outcome {
-    let mut bench = Bench::new(rng);
-    for _ in 0..2_500 {
-        let bytes = hand_made(rng);
-        bench.body.shift(rng);
-        bench.body.put(&bytes);
-        bench.read_through(bytes.len())?;
-        bench.read_everywhere(bytes.len())?;
-        read_cuts(rng, &mut bench, bytes.len())?;
-        read_changed(rng, &mut bench, bytes)?;
-    }
-    Ok(bench.cases)
-}
-
-/// Reads the body cut at every place.
-fn read_cuts(rng: &mut Rng, bench: &mut Bench, length: usize) -> Result<(), String> {
-    for cut in 0..length {
-        bench.check(cut)?;
-        let place = rng.below(cut + 1);
-        bench.entry_at(cut, place)?;
-        bench.entry_at(cut, 1)?;
-        bench.string_at(cut, place)?;
-    }
-    Ok(())
-}
-
-/// Reads the body with one byte changed, ten times.
-fn read_changed(rng: &mut Rng, bench: &mut Bench, mut bytes: Vec<u8>) -> Result<(), String> {
-    for _ in 0..10 {
-        let place = rng.below(bytes.len());
-        let old = bytes[place];
-        bytes[place] = any_byte(rng);
-        bench.body.put(&bytes);
-        bench.read_through(bytes.len())?;
-        bytes[place] = old;
-    }
-    Ok(())
-}
-
-fn any_byte(rng: &mut Rng) -> u8 {
-    match rng.below(4) {
-        0 => rng.pick(&[0, 1, 2, 0x7F, 0x80, 0xFF]),
-        1 => rng.byte() % 8,
-        _ => rng.byte(),
-    }
-}
-
-pub(crate) fn hand_made(rng: &mut Rng) -> Vec<u8> {
-    let kind = rng.pick(&KINDS);
-    let mut bytes = vec![kind];
-    let rows = kind == body::SAMPLES || kind == body::EXEMPLARS;
-    if rows {
-        bytes.extend(any_number(rng, 7).to_be_bytes());
-        bytes.extend(any_number(rng, 1_000).to_be_bytes());
-    }
-    for _ in 0..rng.below(5) {
-        hand_made_entry(rng, kind, &mut bytes);
-    }
-    bytes
-}
-
-fn hand_made_entry(rng: &mut Rng, kind: u8, bytes: &mut Vec<u8>) {
-    match kind {
-        body::SERIES => bytes.extend(rng.number().to_be_bytes()),
-        body::METADATA => {
-            push_uvarint(rng, bytes);
-            bytes.push(rng.byte());
-        }
-        body::TOMBSTONES => {
-            bytes.extend(rng.number().to_be_bytes());
-            push_uvarint(rng, bytes);
-            push_uvarint(rng, bytes);
-        }
-        _ => {
-            push_uvarint(rng, bytes);
-            push_uvarint(rng, bytes);
-            bytes.extend(rng.number().to_be_bytes());
-        }
-    }
-    if kind != body::SAMPLES && kind != body::TOMBSTONES {
-        push_pairs(rng, bytes);
-    }
-}
-
-/// A count, sometimes a lie, and strings.
-fn push_pairs(rng: &mut Rng, bytes: &mut Vec<u8>) {
-    let pairs = rng.below(4) as u64;
-    let told = lie(rng, pairs);
-    push_padded(rng, told, bytes);
-    for _ in 0..2 * pairs {
-        let length = rng.below(6);
-        let told = lie(rng, length as u64);
-        push_padded(rng, told, bytes);
-        bytes.extend(rng.bytes(length));
-    }
-}
-
-/// The number, or once in a while another one.
-fn lie(rng: &mut Rng, number: u64) -> u64 {
-    match rng.below(40) {
-        0 => number + 1,
-        1 => rng.pick(&[1 << 63, u64::MAX, 1 << 62, (1 << 63) + 1, u64::MAX - 8]),
-        _ => number,
-    }
-}
-
-fn push_uvarint(rng: &mut Rng, bytes: &mut Vec<u8>) {
-    let number = any_number(rng, 0);
-    push_padded(rng, number, bytes);
-}
-
-/// The uvarint, sometimes longer than needed, sometimes with a tenth byte above 1.
-pub(crate) fn push_padded(rng: &mut Rng, number: u64, bytes: &mut Vec<u8>) {
-    let start = bytes.len();
-    varint::write_uvarint(number, bytes);
-    let length = bytes.len() - start;
-    if length < varint::LONGEST && rng.once_in(8) {
-        let padded = length + 1 + rng.below(varint::LONGEST - length);
-        *bytes.last_mut().expect("a uvarint has a byte") |= 0x80;
-        bytes.resize(start + padded - 1, 0x80);
-        bytes.push(0);
-    }
-    if rng.once_in(60) {
-        bytes.truncate(start);
-        bytes.resize(start + varint::LONGEST - 1, 0x80 | rng.byte());
-        bytes.push(rng.byte());
-    }
-}
-
-/// Short bodies of any bytes.
-fn compare_noise(rng: &mut Rng) -> Outcome {
-    let mut bench = Bench::new(rng);
-    for _ in 0..20_000 {
-        let bytes = noise(rng);
-        bench.body.put(&bytes);
-        bench.read_through(bytes.len())?;
-        read_somewhere(rng, &mut bench, bytes.len())?;
-    }
-    Ok(bench.cases)
-}
-
-/// Less than 40 bytes, the first mostly a known type.
-pub(crate) fn noise(rng: &mut Rng) -> Vec<u8> {
-    let length = rng.below(40);
-    let mut bytes: Vec<u8> = (0..length).map(|_| any_byte(rng)).collect();
-    if let (Some(first), false) = (bytes.first_mut(), rng.once_in(10)) {
-        *first = rng.pick(&KINDS);
-    }
-    bytes
-}
-
-/// Reads at a few places, up to one past the end.
-fn read_somewhere(rng: &mut Rng, bench: &mut Bench, length: usize) -> Result<(), String> {
-    for _ in 0..5 {
-        let place = rng.below(length + 2);
-        bench.entry_at(length, place)?;
-        bench.string_at(length, place)?;
-    }
-    Ok(())
-}
 
 /// The bodies of a real segment, whole and cut.
 pub fn compare_file(rng: &mut Rng, bytes: &[u8]) -> Outcome {
@@ -630,8 +589,7 @@ fn read_record(rng: &mut Rng, bench: &mut Bench, length: usize) -> Result<(), St
     bench.read_through(length)?;
     for _ in 0..20 {
         bench.check(rng.below(length + 1))?;
-        bench.entry_at(length, rng.below(length + 1))?;
-        bench.string_at(length, rng.below(length + 1))?;
+        bench.read_at(length, rng.below(length + 1))?;
     }
     Ok(())
 }
@@ -681,8 +639,7 @@ fn read_many_entries(rng: &mut Rng, bench: &mut Bench, kind: u8) -> Result<(), S
         bench.check(ROOM - cut)?;
     }
     for _ in 0..200 {
-        bench.entry_at(ROOM, rng.below(ROOM + 1))?;
-        bench.string_at(ROOM, rng.below(ROOM + 1))?;
+        bench.read_at(ROOM, rng.below(ROOM + 1))?;
     }
     Ok(())
 }

@@ -7,7 +7,9 @@ mod bodies;
 pub mod feed;
 pub mod replay;
 
-pub use bodies::{add, body_check, body_start, entry_at, string_at};
+pub use bodies::{
+    add, body_check, body_start, bucket_at, entry_at, histogram_at, span_at, string_at,
+};
 use std::sync::atomic::{AtomicBool, Ordering};
 
 /// Numbers in the checksum's table.

@@ -17,7 +17,7 @@ use crate::rng::Rng;
 use crate::twin::Twin;
 use crate::Group;
 use reference::body::{self, SeriesId, Timestamp, SAMPLES};
-use reference::refusal::{BAD_BUFFER, BAD_VARINT, SHORT, TABLE_FULL, UNKNOWN_TYPE};
+use reference::refusal::{BAD_BUFFER, BAD_RANGE, BAD_VARINT, SHORT, TABLE_FULL, UNKNOWN_TYPE};
 use reference::replay::{Replayed, Row, Table, SERIES_MAX};
 use reference::segment::{self, Reading, RECORD_MAX};
 
@@ -244,7 +244,10 @@ impl Counts {
 
 /// The numbers that refuse a record which was read.
 fn is_of_record(number: u32) -> bool {
-    matches!(number, UNKNOWN_TYPE | SHORT | BAD_VARINT | TABLE_FULL)
+    matches!(
+        number,
+        UNKNOWN_TYPE | SHORT | BAD_VARINT | BAD_RANGE | TABLE_FULL
+    )
 }
 
 /// What `depot_wal_replay` has to answer.

@@ -2,24 +2,20 @@
 //! (`.rows`, whose format is in tests/fixtures/PROVENANCE.md).
 
 use crate::ffi;
+use crate::Outcome;
+use reference::body::FLOAT_HISTOGRAMS;
 use reference::segment::RECORD_MAX;
 use std::fmt::Write;
 
-/// The lines compared, and the entries of types 7 and 8, which the library does not read yet.
-#[derive(Clone, Copy, Debug, Default, PartialEq, Eq)]
-pub struct Compared {
-    pub lines: u64,
-    pub passed_over: u64,
-}
-
 /// Compares all lines of a segment, up to an empty record: Prometheus reads it, the library refuses
 /// it.
-pub fn compare_file(segment: &[u8], rows: &str) -> Result<Compared, String> {
+pub fn compare_file(segment: &[u8], rows: &str) -> Outcome {
     let rows = rows.lines().take_while(|line| !is_empty_record(line));
-    let (known, histograms): (Vec<&str>, Vec<&str>) = rows.partition(|line| !is_histogram(line));
     let ours = library_rows(segment)?;
     let mut ours = ours.lines();
-    for (number, &theirs) in known.iter().enumerate() {
+    let mut lines = 0;
+    for (number, theirs) in rows.enumerate() {
+        lines += 1;
         let line = ours.next().unwrap_or("nothing");
         if line != theirs {
             return Err(format!("line {}: {line}, and not {theirs}", number + 1));
@@ -28,18 +24,11 @@ pub fn compare_file(segment: &[u8], rows: &str) -> Result<Compared, String> {
     if let Some(line) = ours.next() {
         return Err(format!("{line}, and not the end"));
     }
-    Ok(Compared {
-        lines: known.len() as u64,
-        passed_over: histograms.len() as u64,
-    })
+    Ok(lines)
 }
 
 fn is_empty_record(line: &str) -> bool {
     line.starts_with("record ") && line.ends_with(" 0 -")
-}
-
-fn is_histogram(line: &str) -> bool {
-    line.starts_with("histogram ") || line.starts_with("float_histogram ")
 }
 
 /// The records that come out of a segment, each with its entries.
@@ -67,7 +56,7 @@ fn put(lines: &mut String, words: std::fmt::Arguments) {
 
 /// The entries of a body; none for a type that is not known.
 fn put_entries(lines: &mut String, body: &[u8]) -> Result<(), String> {
-    if !matches!(body.first(), Some(1..=4 | 6)) {
+    if !matches!(body.first(), Some(1..=4 | 6..=8)) {
         return Ok(());
     }
     let mut place = 1;
@@ -79,7 +68,10 @@ fn put_entries(lines: &mut String, body: &[u8]) -> Result<(), String> {
         if answer.number != 0 {
             return Err(format!("entry at {place} is refused: {}", answer.number));
         }
-        put_entry(lines, body, &answer.out)?;
+        match body[0] {
+            7 | 8 => put_histogram(lines, body, place)?,
+            _ => put_entry(lines, body, &answer.out)?,
+        }
         place = answer.out[7] as usize;
     }
 }
@@ -105,6 +97,71 @@ fn put_entry(lines: &mut String, body: &[u8], entry: &[u64; 8]) -> Result<(), St
         }
     }
     Ok(())
+}
+
+/// Counts and buckets of a float histogram are the bits of floats.
+fn put_histogram(lines: &mut String, body: &[u8], place: usize) -> Result<(), String> {
+    let answer = ffi::histogram_at(body, place);
+    if answer.number != 0 {
+        return Err(format!("histogram at {place}: {}", answer.number));
+    }
+    let [tag, id, time, hint, schema, threshold, zeros, count, sum, ..] = answer.out;
+    let (name, zeros, count) = if tag == u64::from(FLOAT_HISTOGRAMS) {
+        let (zeros, count) = (format!("{zeros:016x}"), format!("{count:016x}"));
+        ("float_histogram", zeros, count)
+    } else {
+        ("histogram", zeros.to_string(), count.to_string())
+    };
+    let (time, schema) = (time as i64, schema as i64);
+    put(
+        lines,
+        format_args!(
+            "{name} {id} {time} {hint} {schema} {threshold:016x} {zeros} {count} {sum:016x}"
+        ),
+    );
+    for (index, list) in answer.out[9..17].chunks_exact(2).enumerate() {
+        let word = if index < 2 { span } else { bucket };
+        let elements = elements(body, list[0], list[1] as usize, word)?;
+        put(lines, format_args!(" {elements}"));
+    }
+    put(lines, format_args!("\n"));
+    Ok(())
+}
+
+/// The word of the element at a place of a body, and the place after it.
+type Word = fn(&[u8], usize) -> Result<(String, u64), String>;
+
+/// The elements of a list, joined by commas; `-` if it has none.
+fn elements(body: &[u8], count: u64, mut place: usize, one: Word) -> Result<String, String> {
+    let mut words = Vec::new();
+    for _ in 0..count {
+        let (word, after) = one(body, place)?;
+        words.push(word);
+        place = after as usize;
+    }
+    Ok(match words.len() {
+        0 => "-".to_string(),
+        _ => words.join(","),
+    })
+}
+
+fn span(body: &[u8], place: usize) -> Result<(String, u64), String> {
+    let answer = ffi::span_at(body, place);
+    let [offset, length, after] = answer.out;
+    match answer.number {
+        0 => Ok((format!("{}:{length}", offset as i64), after)),
+        number => Err(format!("span at {place}: {number}")),
+    }
+}
+
+fn bucket(body: &[u8], place: usize) -> Result<(String, u64), String> {
+    let answer = ffi::bucket_at(body, place);
+    let [bucket, after] = answer.out;
+    match answer.number {
+        0 if body[0] == FLOAT_HISTOGRAMS => Ok((format!("{bucket:016x}"), after)),
+        0 => Ok(((bucket as i64).to_string(), after)),
+        number => Err(format!("bucket at {place}: {number}")),
+    }
 }
 
 /// A name and its text.

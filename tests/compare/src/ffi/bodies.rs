@@ -2,6 +2,7 @@
 
 use super::{answer, pointer, pointer_mut, Answer};
 use reference::body::{NewEntry, State, Strings};
+use reference::histogram::NewHistogram;
 
 extern "C" {
     pub(super) fn depot_wal_body_start(buffer: *mut u8, len: usize, kind: u8, out: *mut u64)
@@ -73,6 +74,95 @@ extern "C" {
         out: *mut u64,
     ) -> u32;
     fn depot_wal_string_at(body: *const u8, len: usize, place: usize, out: *mut u64) -> u32;
+    fn depot_wal_histogram_at(body: *const u8, len: usize, place: usize, out: *mut u64) -> u32;
+    fn depot_wal_span_at(body: *const u8, len: usize, place: usize, out: *mut u64) -> u32;
+    fn depot_wal_bucket_at(body: *const u8, len: usize, place: usize, out: *mut u64) -> u32;
+}
+
+/// The addition of a histogram, whose buckets are signed or the bits of floats.
+type AddHistogram<B> = unsafe extern "C" fn(
+    buffer: *mut u8,
+    len: usize,
+    kind: u8,
+    used: usize,
+    id: u64,
+    time: i64,
+    hint: u8,
+    schema: i32,
+    zero_threshold: u64,
+    zero_count: u64,
+    count: u64,
+    sum: u64,
+    positive_offsets: *const i32,
+    positive_offsets_len: usize,
+    positive_lengths: *const u32,
+    positive_lengths_len: usize,
+    negative_offsets: *const i32,
+    negative_offsets_len: usize,
+    negative_lengths: *const u32,
+    negative_lengths_len: usize,
+    positive_buckets: *const B,
+    positive_buckets_len: usize,
+    negative_buckets: *const B,
+    negative_buckets_len: usize,
+    out: *mut u64,
+) -> u32;
+
+extern "C" {
+    fn depot_wal_add_histogram(
+        buffer: *mut u8,
+        len: usize,
+        kind: u8,
+        used: usize,
+        id: u64,
+        time: i64,
+        hint: u8,
+        schema: i32,
+        zero_threshold: u64,
+        zero_count: u64,
+        count: u64,
+        sum: u64,
+        positive_offsets: *const i32,
+        positive_offsets_len: usize,
+        positive_lengths: *const u32,
+        positive_lengths_len: usize,
+        negative_offsets: *const i32,
+        negative_offsets_len: usize,
+        negative_lengths: *const u32,
+        negative_lengths_len: usize,
+        positive_buckets: *const i64,
+        positive_buckets_len: usize,
+        negative_buckets: *const i64,
+        negative_buckets_len: usize,
+        out: *mut u64,
+    ) -> u32;
+    fn depot_wal_add_float_histogram(
+        buffer: *mut u8,
+        len: usize,
+        kind: u8,
+        used: usize,
+        id: u64,
+        time: i64,
+        hint: u8,
+        schema: i32,
+        zero_threshold: u64,
+        zero_count: u64,
+        count: u64,
+        sum: u64,
+        positive_offsets: *const i32,
+        positive_offsets_len: usize,
+        positive_lengths: *const u32,
+        positive_lengths_len: usize,
+        negative_offsets: *const i32,
+        negative_offsets_len: usize,
+        negative_lengths: *const u32,
+        negative_lengths_len: usize,
+        positive_buckets: *const u64,
+        positive_buckets_len: usize,
+        negative_buckets: *const u64,
+        negative_buckets_len: usize,
+        out: *mut u64,
+    ) -> u32;
 }
 
 pub fn body_start(buffer: &mut [u8], kind: u8) -> Answer<2> {
@@ -88,6 +178,16 @@ pub fn add(buffer: &mut [u8], state: State, entry: &NewEntry) -> Answer<2> {
     let buffer = pointer_mut(buffer);
     answer(|out| unsafe {
         match *entry {
+            NewEntry::Histogram(new) => {
+                add_histogram(depot_wal_add_histogram, (buffer, len), state, new, out)
+            }
+            NewEntry::FloatHistogram(new) => add_histogram(
+                depot_wal_add_float_histogram,
+                (buffer, len),
+                state,
+                new,
+                out,
+            ),
             NewEntry::Series(id, strings) => {
                 let (text, size, lengths, count) = lent(strings);
                 depot_wal_add_series(
@@ -118,6 +218,43 @@ pub fn add(buffer: &mut [u8], state: State, entry: &NewEntry) -> Answer<2> {
     })
 }
 
+unsafe fn add_histogram<B>(
+    call: AddHistogram<B>,
+    (buffer, len): (*mut u8, usize),
+    state: State,
+    new: &NewHistogram<B>,
+    out: *mut u64,
+) -> u32 {
+    let (positive, negative) = (new.positive_spans, new.negative_spans);
+    call(
+        buffer,
+        len,
+        state.kind,
+        state.used,
+        new.id.0,
+        new.time.0,
+        new.hint,
+        new.schema,
+        new.zero_threshold,
+        new.zero_count,
+        new.count,
+        new.sum,
+        pointer(positive.offsets),
+        positive.offsets.len(),
+        pointer(positive.lengths),
+        positive.lengths.len(),
+        pointer(negative.offsets),
+        negative.offsets.len(),
+        pointer(negative.lengths),
+        negative.lengths.len(),
+        pointer(new.positive_buckets),
+        new.positive_buckets.len(),
+        pointer(new.negative_buckets),
+        new.negative_buckets.len(),
+        out,
+    )
+}
+
 /// The string bytes and their number, the lengths and their number, as they are passed.
 fn lent(strings: Strings) -> (*const u8, usize, *const u64, usize) {
     let (text, lengths) = (pointer(strings.text), pointer(strings.lengths));
@@ -137,4 +274,19 @@ pub fn entry_at(body: &[u8], place: usize) -> Answer<8> {
 pub fn string_at(body: &[u8], place: usize) -> Answer<2> {
     let (pointer, length) = (pointer(body), body.len());
     answer(|out| unsafe { depot_wal_string_at(pointer, length, place, out) })
+}
+
+pub fn histogram_at(body: &[u8], place: usize) -> Answer<18> {
+    let (pointer, length) = (pointer(body), body.len());
+    answer(|out| unsafe { depot_wal_histogram_at(pointer, length, place, out) })
+}
+
+pub fn span_at(body: &[u8], place: usize) -> Answer<3> {
+    let (pointer, length) = (pointer(body), body.len());
+    answer(|out| unsafe { depot_wal_span_at(pointer, length, place, out) })
+}
+
+pub fn bucket_at(body: &[u8], place: usize) -> Answer<2> {
+    let (pointer, length) = (pointer(body), body.len());
+    answer(|out| unsafe { depot_wal_bucket_at(pointer, length, place, out) })
 }

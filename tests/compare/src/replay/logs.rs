@@ -4,9 +4,10 @@ use crate::bodies::{any_number, hand_made, push_padded, KINDS};
 use crate::generate::{make_fragment, Fragment, Sample};
 use crate::rng::Rng;
 use reference::body::{
-    self, NewEntry, SeriesId, Strings, Timestamp, BODY_MAX, EXEMPLARS, METADATA, SAMPLES, SERIES,
-    TOMBSTONES,
+    self, NewEntry, SeriesId, Strings, Timestamp, BODY_MAX, EXEMPLARS, FLOAT_HISTOGRAMS,
+    HISTOGRAMS, METADATA, SAMPLES, SERIES, TOMBSTONES,
 };
+use reference::histogram::{NewHistogram, Spans};
 use reference::segment::{left_in_page, FIRST, FULL, HEADER, LAST, MIDDLE};
 use reference::varint;
 
@@ -244,8 +245,11 @@ impl World {
         build(SERIES, &entries)
     }
 
-    /// Exemplars or metadata of the ids of this log, which change nothing.
+    /// Exemplars, metadata or histograms of the ids of this log, which change nothing.
     fn idle_body(&mut self, rng: &mut Rng, count: usize) -> Vec<u8> {
+        if rng.once_in(2) {
+            return self.histograms(rng, count.min(40));
+        }
         let text = rng.bytes(8);
         let kind = rng.pick(&[EXEMPLARS, METADATA]);
         let entries: Vec<NewEntry> = (0..count)
@@ -258,6 +262,21 @@ impl World {
             })
             .collect();
         build(kind, &entries)
+    }
+
+    fn histograms(&mut self, rng: &mut Rng, count: usize) -> Vec<u8> {
+        let rows = self.list(rng, count, World::row);
+        let buckets = rng.below(10);
+        if rng.once_in(2) {
+            let buckets: Vec<i64> = (0..buckets).map(|_| any_number(rng, 0) as i64).collect();
+            let all: Vec<_> = rows.iter().map(|&row| histogram(row, &buckets)).collect();
+            let entries: Vec<NewEntry> = all.iter().map(NewEntry::Histogram).collect();
+            return build(HISTOGRAMS, &entries);
+        }
+        let buckets: Vec<u64> = (0..buckets).map(|_| any_number(rng, 0)).collect();
+        let all: Vec<_> = rows.iter().map(|&row| histogram(row, &buckets)).collect();
+        let entries: Vec<NewEntry> = all.iter().map(NewEntry::FloatHistogram).collect();
+        build(FLOAT_HISTOGRAMS, &entries)
     }
 
     /// Rows counted from any first id and time, their varints now and then longer than needed or
@@ -279,6 +298,25 @@ impl World {
             bytes.extend(bits.to_be_bytes());
         }
         bytes
+    }
+}
+
+/// A histogram of this id, time and sum.
+fn histogram<B>((id, time, sum): (u64, i64, u64), buckets: &[B]) -> NewHistogram<'_, B> {
+    let (offsets, lengths) = (&[-1, i32::MAX], &[2, u32::MAX]);
+    NewHistogram {
+        id: SeriesId(id),
+        time: Timestamp(time),
+        hint: 3,
+        schema: i32::MIN,
+        zero_threshold: 1,
+        zero_count: id,
+        count: sum,
+        sum,
+        positive_spans: Spans { offsets, lengths },
+        negative_spans: Spans { offsets, lengths },
+        positive_buckets: buckets,
+        negative_buckets: buckets,
     }
 }
 

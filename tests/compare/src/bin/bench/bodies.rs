@@ -2,7 +2,10 @@
 
 use crate::timing::{self, Rounds};
 use compare::ffi::bare;
-use reference::body::{self, NewEntry, Sample, SeriesId, State, Timestamp, BODY_MAX, SAMPLES};
+use reference::body::{
+    self, NewEntry, Sample, SeriesId, State, Timestamp, BODY_MAX, HISTOGRAMS, SAMPLES,
+};
+use reference::histogram::{NewHistogram, Spans};
 use std::hint::black_box;
 
 const ROUNDS: usize = 41;
@@ -10,6 +13,8 @@ const ROUNDS: usize = 41;
 const REPEATS: usize = 2_000;
 /// Rows of the long body.
 const ROWS: usize = 5_000;
+/// Histograms of another.
+const HISTOGRAM_ROWS: usize = 1_000;
 
 const HEAD: &str = "\
 buffers: warm, the same for both; a body has no checksum
@@ -17,7 +22,8 @@ buffers: warm, the same for both; a body has no checksum
 
 const JOBS: &str = "\
 To build the switch is to start a body and add two rows; to read it, to read both rows and the
-plain end. The second program writes each row straight into the buffer, without allocation.";
+plain end. The second program writes each row straight into the buffer, without allocation. A
+histogram has 20 buckets in two lists and four spans; nearly all its varints have one byte.";
 
 /// Prints a line for each job and hands back the summary.
 pub fn bench() -> String {
@@ -26,6 +32,7 @@ pub fn bench() -> String {
         ("build the switch", bench_build as fn() -> Rounds<2>),
         ("read the switch", bench_read),
         ("check 5,000 rows", bench_check),
+        ("check 1,000 histograms", bench_check_histograms),
     ];
     let rows = jobs.map(|(name, bench)| {
         let rounds = bench();
@@ -133,7 +140,45 @@ fn bench_check() -> Rounds<2> {
     )
 }
 
-/// The number of rows.
+/// Integer histograms, as a battery's: 10 buckets on each side.
+fn bench_check_histograms() -> Rounds<2> {
+    let buckets = [3, 2, -1, 4, -2, 1, 0, 5, -6, 7];
+    let histograms: Vec<_> = (0..HISTOGRAM_ROWS)
+        .map(|i| histogram(i, &buckets))
+        .collect();
+    let mut buffer = vec![0; BODY_MAX];
+    let mut state = body::start(&mut buffer, HISTOGRAMS).expect("the type is known");
+    for histogram in &histograms {
+        let entry = NewEntry::Histogram(histogram);
+        state = body::add(&mut buffer, state, &entry).expect("the histograms fit");
+    }
+    time(
+        &mut buffer[..state.used],
+        1,
+        |body| check_ours(body),
+        |body| check_second(body),
+    )
+}
+
+fn histogram(index: usize, buckets: &[i64]) -> NewHistogram<'_, i64> {
+    let (offsets, lengths) = (&[0, 2], &[5, 5]);
+    NewHistogram {
+        id: SeriesId(7 + index as u64 % 50),
+        time: Timestamp(1_000 + index as i64 / 100),
+        hint: 0,
+        schema: 3,
+        zero_threshold: 0x3FF0 << 48,
+        zero_count: 2,
+        count: 300,
+        sum: index as u64,
+        positive_spans: Spans { offsets, lengths },
+        negative_spans: Spans { offsets, lengths },
+        positive_buckets: buckets,
+        negative_buckets: buckets,
+    }
+}
+
+/// The number of entries.
 fn check_ours(body: &[u8]) -> usize {
     let mut out = [0];
     bare::body_check(body, &mut out);
