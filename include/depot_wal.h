@@ -2,7 +2,7 @@
  * proved).
  *
  * A segment is a caller-owned buffer. Records of 1 to 65,536 bytes are written into it and read
- * back, five types of record bodies are encoded and decoded, and a log is replayed into a table of
+ * back, seven types of record bodies are encoded and decoded, and a log is replayed into a table of
  * what each series had last. docs/FORMAT.md draws the bytes; examples/switch.c is a whole program.
  * The archive is for Linux on x86-64; beside the caller's memory it needs `memset` and `memcpy`.
  *
@@ -140,7 +140,9 @@ enum depot_wal_type {
     DEPOT_WAL_SAMPLES = 2,
     DEPOT_WAL_TOMBSTONES = 3,
     DEPOT_WAL_EXEMPLARS = 4,
-    DEPOT_WAL_METADATA = 6
+    DEPOT_WAL_METADATA = 6,
+    DEPOT_WAL_HISTOGRAMS = 7,      /* histograms whose counts and buckets are whole numbers */
+    DEPOT_WAL_FLOAT_HISTOGRAMS = 8 /* histograms whose counts and buckets are floats */
 };
 
 /* ---- status ---- */
@@ -168,8 +170,9 @@ enum {
     DEPOT_WAL_SHORT = 22,        /* the body ends inside a field */
     DEPOT_WAL_BAD_VARINT = 23,   /* the tenth byte of a varint is above 1 */
     DEPOT_WAL_LIST_FULL = 24,    /* more entries than a list holds; no call here returns it */
-    DEPOT_WAL_BAD_LIST = 25,     /* an odd number of strings, or lengths that do not add up */
-    DEPOT_WAL_WRONG_KIND = 26,   /* an entry for a body of another type */
+    DEPOT_WAL_BAD_LIST = 25,     /* strings or spans whose numbers do not go together */
+    DEPOT_WAL_WRONG_KIND = 26,   /* an entry for, or a histogram in, a body of another type */
+    DEPOT_WAL_BAD_RANGE = 27,    /* a number of a histogram that does not fit 32 bits */
     DEPOT_WAL_TABLE_FULL = 28,   /* a log with more than 256 series */
     DEPOT_WAL_END = 200,         /* the end of the log or of the body; no error */
     DEPOT_WAL_MORE = 201         /* the next page is asked for; no error */
@@ -198,8 +201,9 @@ static inline const char *depot_wal_status_text(depot_wal_status status)
     case DEPOT_WAL_SHORT: return "body truncated inside a field";
     case DEPOT_WAL_BAD_VARINT: return "corrupt: varint above 64 bits";
     case DEPOT_WAL_LIST_FULL: return "more entries than the list holds";
-    case DEPOT_WAL_BAD_LIST: return "odd number of strings, or lengths that do not add up";
-    case DEPOT_WAL_WRONG_KIND: return "entry for a body of another type";
+    case DEPOT_WAL_BAD_LIST: return "strings or spans whose numbers do not go together";
+    case DEPOT_WAL_WRONG_KIND: return "entry for, or histogram in, a body of another type";
+    case DEPOT_WAL_BAD_RANGE: return "number of a histogram above 32 bits";
     case DEPOT_WAL_TABLE_FULL: return "more series than the table holds";
     case DEPOT_WAL_END: return "nothing more to read";
     case DEPOT_WAL_MORE: return "the next page is asked for";
@@ -244,7 +248,7 @@ struct depot_wal_entry {
     uint64_t id;         /* series id */
     int64_t time;        /* time (milliseconds, for Prometheus), or a tombstone's min */
     int64_t max;         /* a tombstone's max */
-    uint64_t bits;       /* the 64 bits of the value, or the metric type */
+    uint64_t bits;       /* the 64 bits of the value or of a histogram's sum, or the metric type */
     uint64_t strings;    /* how many strings */
     uint64_t strings_at; /* the place of the first, for depot_wal_string_at; without any: next */
     uint64_t next;       /* the place after the entry */
@@ -254,6 +258,44 @@ struct depot_wal_entry {
 struct depot_wal_string {
     uint64_t start;  /* the place of its first byte; on an error: the place of the error */
     uint64_t length; /* its bytes */
+};
+
+/* A list of a histogram. */
+struct depot_wal_list {
+    uint64_t count; /* how many elements */
+    uint64_t first; /* the place of the first, for depot_wal_span_at or depot_wal_bucket_at */
+};
+
+/* A histogram. Floats are their 64 bits. */
+struct depot_wal_histogram {
+    uint64_t type;           /* of enum depot_wal_type; on an error: the place of the error */
+    uint64_t id;             /* series id */
+    int64_t time;            /* time (milliseconds, for Prometheus) */
+    uint64_t hint;           /* the counter reset hint, any byte */
+    int64_t schema;          /* the schema, which fits 32 bits */
+    uint64_t zero_threshold; /* a float */
+    uint64_t zero_count;     /* a number; of DEPOT_WAL_FLOAT_HISTOGRAMS a float */
+    uint64_t count;          /* a number; of DEPOT_WAL_FLOAT_HISTOGRAMS a float */
+    uint64_t sum;            /* a float */
+    struct depot_wal_list positive_spans;
+    struct depot_wal_list negative_spans;
+    struct depot_wal_list positive_buckets;
+    struct depot_wal_list negative_buckets;
+    uint64_t next; /* the place after the histogram */
+};
+
+/* A span of a histogram. */
+struct depot_wal_span {
+    int64_t offset;  /* its offset, which fits 32 bits; on an error: the place of the error */
+    uint64_t length; /* its length, which fits 32 bits */
+    uint64_t next;   /* the place after it: that of the next one */
+};
+
+/* A bucket of a histogram. */
+struct depot_wal_bucket {
+    uint64_t bits; /* its 64 bits: a number in two's complement, or a float; on an error: the place
+                    * of the error */
+    uint64_t next; /* the place after it: that of the next one */
 };
 
 /* Of a replay. */
@@ -280,6 +322,8 @@ typedef char depot_wal_layout[
     sizeof(struct depot_wal_record) == 3 * 8 && sizeof(struct depot_wal_fed) == 1 * 8 &&
     sizeof(struct depot_wal_count) == 1 * 8 &&
     sizeof(struct depot_wal_entry) == 8 * 8 && sizeof(struct depot_wal_string) == 2 * 8 &&
+    sizeof(struct depot_wal_list) == 2 * 8 && sizeof(struct depot_wal_histogram) == 18 * 8 &&
+    sizeof(struct depot_wal_span) == 3 * 8 && sizeof(struct depot_wal_bucket) == 2 * 8 &&
     sizeof(struct depot_wal_replayed) == 4 * 8 && sizeof(struct depot_wal_series) == 5 * 8
         ? 1 : -1];
 
@@ -426,15 +470,16 @@ depot_wal_status depot_wal_read_with_table(const uint32_t table[DEPOT_WAL_TABLE_
 depot_wal_status depot_wal_body_start(uint8_t *buffer, size_t len, uint8_t type,
                                       struct depot_wal_built *out);
 
-/* The five calls that add an entry. `type` and `used` are the state of the body: the type that it
+/* The seven calls that add an entry. `type` and `used` are the state of the body: the type that it
  * was started with, and the `used` of the call before.
  * Result: the bytes used with the new entry.
  * Errors, with error_at:
- *   DEPOT_WAL_BAD_PLACE   0     no such state: `used` is 0 or more than `len`, or 2 to 16 in types
- *                               DEPOT_WAL_SAMPLES and DEPOT_WAL_EXEMPLARS, or the buffer's first
- *                               byte is not `type`
+ *   DEPOT_WAL_BAD_PLACE   0     no such state: `used` is 0 or more than `len`, or 2 to 16 in a
+ *                               type of rows (samples, exemplars, histograms of both types), or
+ *                               the buffer's first byte is not `type`
  *   DEPOT_WAL_WRONG_KIND  0     `type` is not the type of this entry
- *   DEPOT_WAL_BAD_LIST    0     `count` is odd, or the lengths do not add up to strings_len
+ *   DEPOT_WAL_BAD_LIST    0     `count` is odd, or the lengths do not add up to strings_len; of a
+ *                               histogram, a side has not as many offsets as lengths
  *   DEPOT_WAL_TOO_LONG    used  the body would be above DEPOT_WAL_RECORD_MAX
  *   DEPOT_WAL_NO_ROOM     used  the body would be longer than the buffer
  * Changes: the buffer's bytes from the old `used` to the new, and *out.
@@ -473,6 +518,37 @@ depot_wal_status depot_wal_add_metadata(uint8_t *buffer, size_t len, uint8_t typ
                                         const uint64_t *lengths, size_t count,
                                         struct depot_wal_built *out);
 
+/* Adds a histogram of whole numbers, type DEPOT_WAL_HISTOGRAMS: series id, time, the hint about
+ * counter resets (any byte), the schema, and so on in the order of the parameters. zero_threshold
+ * and sum are the 64 bits of floats. The spans of each side are one array of offsets and one of
+ * lengths; the buckets of each side are the differences that Prometheus stores. Whether buckets and
+ * spans go together is not checked. */
+depot_wal_status depot_wal_add_histogram(
+    uint8_t *buffer, size_t len, uint8_t type, size_t used,
+    uint64_t id, int64_t time, uint8_t hint, int32_t schema, uint64_t zero_threshold,
+    uint64_t zero_count, uint64_t count, uint64_t sum,
+    const int32_t *positive_offsets, size_t positive_offsets_len,
+    const uint32_t *positive_lengths, size_t positive_lengths_len,
+    const int32_t *negative_offsets, size_t negative_offsets_len,
+    const uint32_t *negative_lengths, size_t negative_lengths_len,
+    const int64_t *positive_buckets, size_t positive_buckets_len,
+    const int64_t *negative_buckets, size_t negative_buckets_len,
+    struct depot_wal_built *out);
+
+/* Adds a histogram of floats, type DEPOT_WAL_FLOAT_HISTOGRAMS: the same, with zero_count, count and
+ * the buckets as the 64 bits of floats. */
+depot_wal_status depot_wal_add_float_histogram(
+    uint8_t *buffer, size_t len, uint8_t type, size_t used,
+    uint64_t id, int64_t time, uint8_t hint, int32_t schema, uint64_t zero_threshold,
+    uint64_t zero_count, uint64_t count, uint64_t sum,
+    const int32_t *positive_offsets, size_t positive_offsets_len,
+    const uint32_t *positive_lengths, size_t positive_lengths_len,
+    const int32_t *negative_offsets, size_t negative_offsets_len,
+    const uint32_t *negative_lengths, size_t negative_lengths_len,
+    const uint64_t *positive_buckets, size_t positive_buckets_len,
+    const uint64_t *negative_buckets, size_t negative_buckets_len,
+    struct depot_wal_built *out);
+
 /* ---- decoding a body ---- */
 
 /* Checks a body of any length.
@@ -482,23 +558,26 @@ depot_wal_status depot_wal_add_metadata(uint8_t *buffer, size_t len, uint8_t typ
  *   DEPOT_WAL_UNKNOWN_TYPE  0      the first byte is not in enum depot_wal_type
  *   DEPOT_WAL_SHORT         field  the body ends inside a field
  *   DEPOT_WAL_BAD_VARINT    field  the tenth byte of a varint is above 1
- * Of the last two the first from the left counts; "field" is the first byte of that field (a string
- * and its length are one field).
+ *   DEPOT_WAL_BAD_RANGE     field  a histogram's schema, or a span's offset or length, does not fit
+ *                                  32 bits
+ * Of the last three the first from the left counts; "field" is the first byte of that field (a
+ * string and its length are one field).
  * Changes: *out. */
 depot_wal_status depot_wal_body_check(const uint8_t *body, size_t len,
                                       struct depot_wal_count *out);
 
 /* Decodes the entry at `place`: 1 for the first, later the `next` of the entry before.
- * Result: the entry; the deltas of samples and exemplars are already added to id and time.
+ * Result: the entry; the deltas of rows (samples, exemplars, histograms) are already added to id
+ * and time. depot_wal_histogram_at has all of a histogram.
  * DEPOT_WAL_END at the body's end.
  * Errors, with the place in `type`:
  *   DEPOT_WAL_EMPTY_BODY    0      `len` is 0
  *   DEPOT_WAL_UNKNOWN_TYPE  0      the first byte is not in enum depot_wal_type
- *   DEPOT_WAL_BAD_PLACE     0      `place` is 0, past the body, or 2 to 16 in types
- *                                  DEPOT_WAL_SAMPLES and DEPOT_WAL_EXEMPLARS
- *   DEPOT_WAL_SHORT         field  as above, but of this entry alone (at place 1 of samples and
- *                                  exemplars also of the first id and time)
+ *   DEPOT_WAL_BAD_PLACE     0      `place` is 0, past the body, or 2 to 16 in a type of rows
+ *   DEPOT_WAL_SHORT         field  as above, but of this entry alone (at place 1 of a type of rows
+ *                                  also of the first id and time)
  *   DEPOT_WAL_BAD_VARINT    field  as above, but of this entry alone
+ *   DEPOT_WAL_BAD_RANGE     field  as above, but of this entry alone
  * Changes: *out. */
 depot_wal_status depot_wal_entry_at(const uint8_t *body, size_t len, size_t place,
                                     struct depot_wal_entry *out);
@@ -516,6 +595,36 @@ depot_wal_status depot_wal_entry_at(const uint8_t *body, size_t len, size_t plac
 depot_wal_status depot_wal_string_at(const uint8_t *body, size_t len, size_t place,
                                      struct depot_wal_string *out);
 
+/* Decodes the histogram at `place`; the places are those of depot_wal_entry_at.
+ * Result: its numbers, its four lists by their counts and first places, and the place after it.
+ * DEPOT_WAL_END at the body's end.
+ * Errors, with the place in `type`:
+ *   DEPOT_WAL_EMPTY_BODY    0      `len` is 0
+ *   DEPOT_WAL_UNKNOWN_TYPE  0      the first byte is not in enum depot_wal_type
+ *   DEPOT_WAL_WRONG_KIND    0      the body is not of DEPOT_WAL_HISTOGRAMS or
+ *                                  DEPOT_WAL_FLOAT_HISTOGRAMS
+ *   then those of depot_wal_entry_at from DEPOT_WAL_BAD_PLACE on
+ * Changes: *out. */
+depot_wal_status depot_wal_histogram_at(const uint8_t *body, size_t len, size_t place,
+                                        struct depot_wal_histogram *out);
+
+/* Decodes the span at `place`, or the bucket: a list's first is at its `first`, the next one at the
+ * `next` of the one before. A bucket is that of the body's type.
+ * Result: the span or the bucket, and the place after it.
+ * Errors, with the place in `offset` or `bits`:
+ *   DEPOT_WAL_EMPTY_BODY    0      `len` is 0
+ *   DEPOT_WAL_UNKNOWN_TYPE  0      the first byte is not in enum depot_wal_type
+ *   DEPOT_WAL_WRONG_KIND    0      the body is not one of histograms
+ *   DEPOT_WAL_BAD_PLACE     0      `place` is 0 or past the body
+ *   DEPOT_WAL_SHORT         field  the body ends inside it; a span's length is a field of its own
+ *   DEPOT_WAL_BAD_VARINT    field  the tenth byte of a varint is above 1
+ *   DEPOT_WAL_BAD_RANGE     field  a span's offset or length does not fit 32 bits
+ * Changes: *out. */
+depot_wal_status depot_wal_span_at(const uint8_t *body, size_t len, size_t place,
+                                   struct depot_wal_span *out);
+depot_wal_status depot_wal_bucket_at(const uint8_t *body, size_t len, size_t place,
+                                     struct depot_wal_bucket *out);
+
 /* ---- replaying a log ---- */
 
 /* Replays the records of a segment, from its start, into a table: what each series had last.
@@ -527,7 +636,7 @@ depot_wal_status depot_wal_string_at(const uint8_t *body, size_t len, size_t pla
  *   - A tombstone from min to max that covers the latest time marks its series as deleted. One for
  *     an id that is not entered, or for a series without rows, changes nothing; nor does one with
  *     min above max.
- *   - Exemplars and metadata change nothing.
+ *   - Exemplars, metadata and histograms change nothing.
  *   - A record whose first byte is not in enum depot_wal_type is skipped, and counted in `skipped`:
  *     types may be added to the format, and an older box goes on.
  * Each record counts wholly or not at all.

@@ -47,6 +47,9 @@ union result {
     struct depot_wal_count count;
     struct depot_wal_entry entry;
     struct depot_wal_string string;
+    struct depot_wal_histogram histogram;
+    struct depot_wal_span span;
+    struct depot_wal_bucket bucket;
     struct depot_wal_replayed replayed;
 };
 static union result guarded[3], *const out = &guarded[1];
@@ -70,6 +73,10 @@ static int gives(depot_wal_status got, depot_wal_status status, const void *want
 #define COUNT(...) &(struct depot_wal_count){__VA_ARGS__}, sizeof(struct depot_wal_count)
 #define ENTRY(...) &(struct depot_wal_entry){__VA_ARGS__}, sizeof(struct depot_wal_entry)
 #define STRING(...) &(struct depot_wal_string){__VA_ARGS__}, sizeof(struct depot_wal_string)
+#define HISTOGRAM(...) \
+    &(struct depot_wal_histogram){__VA_ARGS__}, sizeof(struct depot_wal_histogram)
+#define SPAN(...) &(struct depot_wal_span){__VA_ARGS__}, sizeof(struct depot_wal_span)
+#define BUCKET(...) &(struct depot_wal_bucket){__VA_ARGS__}, sizeof(struct depot_wal_bucket)
 #define REPLAYED(...) &(struct depot_wal_replayed){__VA_ARGS__}, sizeof(struct depot_wal_replayed)
 
 /* Writes bytes given as text in hexadecimal; blanks do not matter. Returns how many. */
@@ -118,6 +125,29 @@ static void layouts(void)
     FIELD(depot_wal_entry, 7, next);
     FIELD(depot_wal_string, 0, start);
     FIELD(depot_wal_string, 1, length);
+    FIELD(depot_wal_histogram, 0, type);
+    FIELD(depot_wal_histogram, 1, id);
+    FIELD(depot_wal_histogram, 2, time);
+    FIELD(depot_wal_histogram, 3, hint);
+    FIELD(depot_wal_histogram, 4, schema);
+    FIELD(depot_wal_histogram, 5, zero_threshold);
+    FIELD(depot_wal_histogram, 6, zero_count);
+    FIELD(depot_wal_histogram, 7, count);
+    FIELD(depot_wal_histogram, 8, sum);
+    FIELD(depot_wal_histogram, 9, positive_spans.count);
+    FIELD(depot_wal_histogram, 10, positive_spans.first);
+    FIELD(depot_wal_histogram, 11, negative_spans.count);
+    FIELD(depot_wal_histogram, 12, negative_spans.first);
+    FIELD(depot_wal_histogram, 13, positive_buckets.count);
+    FIELD(depot_wal_histogram, 14, positive_buckets.first);
+    FIELD(depot_wal_histogram, 15, negative_buckets.count);
+    FIELD(depot_wal_histogram, 16, negative_buckets.first);
+    FIELD(depot_wal_histogram, 17, next);
+    FIELD(depot_wal_span, 0, offset);
+    FIELD(depot_wal_span, 1, length);
+    FIELD(depot_wal_span, 2, next);
+    FIELD(depot_wal_bucket, 0, bits);
+    FIELD(depot_wal_bucket, 1, next);
     FIELD(depot_wal_replayed, 0, error_at);
     FIELD(depot_wal_replayed, 1, series);
     FIELD(depot_wal_replayed, 2, orphans);
@@ -134,8 +164,9 @@ static void layouts(void)
 static void texts(void)
 {
     static const depot_wal_status known[] = {0,  1,  2,  3,  4,  5,  6,  7,  8,  9,  10,
-                                             11, 12, 13, 20, 21, 22, 23, 24, 25, 26, 28, 200, 201};
-    static const depot_wal_status unknown[] = {14, 19, 27, 29, 199, 202, UINT32_MAX};
+                                             11, 12, 13, 20, 21, 22, 23, 24, 25, 26, 27, 28, 200,
+                                             201};
+    static const depot_wal_status unknown[] = {14, 19, 29, 199, 202, UINT32_MAX};
     for (size_t i = 0; i < sizeof known / sizeof *known; i++) {
         const char *text = depot_wal_status_text(known[i]);
         int own = strcmp(text, "unknown status") != 0;
@@ -753,6 +784,26 @@ static void feed_cuts(void)
 
 /* ---- bodies ---- */
 
+struct spans {
+    const int32_t *offsets;
+    size_t offsets_len;
+    const uint32_t *lengths;
+    size_t lengths_len;
+};
+
+struct buckets {
+    const uint64_t *bits;
+    size_t len;
+};
+
+struct histogram {
+    uint8_t hint;
+    int32_t schema;
+    uint64_t threshold, zeros, count, sum;
+    struct spans positive, negative;
+    struct buckets above, below;
+};
+
 struct entry {
     uint64_t id;
     int64_t time, max;
@@ -760,11 +811,34 @@ struct entry {
     const char *strings;
     const uint64_t *lengths;
     size_t count;
+    const struct histogram *histogram; /* NULL: all zero, no spans and no buckets */
 };
 
 static uint8_t body[70000];
 static const uint8_t types[] = {DEPOT_WAL_SERIES, DEPOT_WAL_SAMPLES, DEPOT_WAL_TOMBSTONES,
-                                DEPOT_WAL_EXEMPLARS, DEPOT_WAL_METADATA};
+                                DEPOT_WAL_EXEMPLARS, DEPOT_WAL_METADATA, DEPOT_WAL_HISTOGRAMS,
+                                DEPOT_WAL_FLOAT_HISTOGRAMS};
+
+/* The two calls that add a histogram; the buckets of type 7 are lent as signed numbers. */
+static depot_wal_status add_histogram(uint8_t kind, size_t len, uint8_t type, size_t used,
+                                      const struct entry *e)
+{
+    static const struct histogram zero;
+    const struct histogram *h = e->histogram ? e->histogram : &zero;
+    const struct spans *p = &h->positive, *n = &h->negative;
+    if (kind == DEPOT_WAL_HISTOGRAMS)
+        return depot_wal_add_histogram(
+            body, len, type, used, e->id, e->time, h->hint, h->schema, h->threshold, h->zeros,
+            h->count, h->sum, p->offsets, p->offsets_len, p->lengths, p->lengths_len,
+            n->offsets, n->offsets_len, n->lengths, n->lengths_len,
+            (const int64_t *)h->above.bits, h->above.len,
+            (const int64_t *)h->below.bits, h->below.len, &out->built);
+    return depot_wal_add_float_histogram(
+        body, len, type, used, e->id, e->time, h->hint, h->schema, h->threshold, h->zeros,
+        h->count, h->sum, p->offsets, p->offsets_len, p->lengths, p->lengths_len,
+        n->offsets, n->offsets_len, n->lengths, n->lengths_len,
+        h->above.bits, h->above.len, h->below.bits, h->below.len, &out->built);
+}
 
 /* The call that adds an entry of a kind, to a body of a type. */
 static depot_wal_status add(uint8_t kind, size_t len, uint8_t type, size_t used,
@@ -784,9 +858,11 @@ static depot_wal_status add(uint8_t kind, size_t len, uint8_t type, size_t used,
     case DEPOT_WAL_EXEMPLARS:
         return depot_wal_add_exemplar(body, len, type, used, e->id, e->time, e->bits,
                                       text, text_len, e->lengths, e->count, built);
-    default:
+    case DEPOT_WAL_METADATA:
         return depot_wal_add_metadata(body, len, type, used, e->id, (uint8_t)e->bits,
                                       text, text_len, e->lengths, e->count, built);
+    default:
+        return add_histogram(kind, len, type, used, e);
     }
 }
 
@@ -836,14 +912,14 @@ static void start(int line, uint8_t type)
 /* Starting: UNKNOWN_TYPE, then NO_ROOM. A started body is a body without entries. */
 static void starts(void)
 {
-    for (size_t i = 0; i < 5; i++) {
+    for (size_t i = 0; i < sizeof types; i++) {
         start(__LINE__, types[i]);
         BODY_CHECK(body, 1, DONE, .count = 0);
         ENTRY_AT(body, 1, 1, DEPOT_WAL_END, 0);
         CHECK(GIVES(depot_wal_body_start(NULL, 0, types[i], &out->built), DEPOT_WAL_NO_ROOM,
                     BUILT(.used = 0)));
     }
-    static const uint8_t unknown[] = {0, 5, 7, 255};
+    static const uint8_t unknown[] = {0, 5, 9, 255};
     memset(body, 0xAA, sizeof body);
     for (size_t i = 0; i < 4; i++) {
         CHECK(GIVES(depot_wal_body_start(body, 9, unknown[i], &out->built), DEPOT_WAL_UNKNOWN_TYPE,
@@ -978,7 +1054,97 @@ static void metadata(void)
     STRING_AT(body, used, 10, DONE, .start = 11, .length = 1);
 }
 
-/* The errors of the five additions: BAD_PLACE, WRONG_KIND, BAD_LIST, TOO_LONG, NO_ROOM in this
+#define SPANS(o, n) {.offsets = o, .offsets_len = sizeof o / sizeof *o, \
+                     .lengths = n, .lengths_len = sizeof n / sizeof *n}
+#define BUCKETS(b) {.bits = b, .len = sizeof b / sizeof *b}
+
+/* Type 7: numbers and lists of one and of more bytes, none at all, and the farthest of each. */
+static void histograms(void)
+{
+    static const int32_t offsets[] = {-2, 64}, zero[] = {0}, far[] = {INT32_MAX, INT32_MIN};
+    static const uint32_t lengths[] = {1, 128}, two[] = {2}, farthest[] = {UINT32_MAX, 0};
+    static const uint64_t above[] = {1, TOP, 64}, below[] = {TOP - 63, 0}; /* 1, -1, 64; -64, 0 */
+    static const uint64_t least[] = {UINT64_C(1) << 63}, most[] = {INT64_MAX};
+    static const struct histogram some = {
+        .hint = 2, .schema = 3, .threshold = ONE, .zeros = 300, .count = 5,
+        .sum = 0x4008000000000000u, .positive = SPANS(offsets, lengths),
+        .negative = SPANS(zero, two), .above = BUCKETS(above), .below = BUCKETS(below)};
+    static const struct histogram extreme = {
+        .hint = 255, .schema = INT32_MIN, .threshold = 0x7FF0000000000001u, .zeros = TOP,
+        .count = UINT64_C(1) << 63, .sum = 0xFFF8000000000000u, .negative = SPANS(far, farthest),
+        .above = BUCKETS(least), .below = BUCKETS(most)};
+    start(__LINE__, 7);
+    size_t used = ADDS(7, 1, "0000000000000007 00000000000003E8 00 00"
+                             "02 06 3FF0000000000000 AC02 05 4008000000000000"
+                             "02 03 01 8001 8001  01 00 02  03 02 01 8001  02 7F 00",
+                       .id = 7, .time = 1000, .histogram = &some);
+    CHECK(used == 58); /* 1, 18, 21, and lists of 7, 3, 5 and 3 */
+    used = ADDS(7, used, "01 D804 00 00 0000000000000000 00 00 0000000000000000 00 00 00 00",
+                .id = 6, .time = 1300);
+    used = ADDS(7, used, "0F AEF0FFFFFFFFFFFFFF01 FF FFFFFFFF0F 7FF0000000000001"
+                         "FFFFFFFFFFFFFFFFFF01 80808080808080808001 FFF8000000000000"
+                         "00  02 FEFFFFFF0F FFFFFFFF0F FFFFFFFF0F 00"
+                         "01 FFFFFFFFFFFFFFFFFF01  01 FEFFFFFFFFFFFFFFFF01",
+                .id = TOP, .time = INT64_MAX, .histogram = &extreme);
+    BODY_CHECK(body, used, DONE, .count = 3);
+    /* A state of 17 bytes: against the first id and time that are there. */
+    ADDS(7, 17, "02 00 00 00 0000000000000000 00 00 0000000000000000 00 00 00 00",
+         .id = 8, .time = 1000);
+}
+
+/* Type 8: floats where type 7 has whole numbers; every bit of a float survives. */
+static void float_histograms(void)
+{
+    static const int32_t offsets[] = {1};
+    static const uint32_t lengths[] = {2};
+    static const uint64_t above[] = {ONE, 0x7FF0000000000001u}, below[] = {UINT64_C(1) << 63};
+    static const struct histogram some = {
+        .hint = 1, .schema = -4, .zeros = ONE, .count = 0x4000000000000000u,
+        .sum = 0xBFF0000000000000u, .positive = SPANS(offsets, lengths),
+        .above = BUCKETS(above), .below = BUCKETS(below)};
+    const struct entry e = {.id = 7, .time = 1000, .histogram = &some};
+    start(__LINE__, 8);
+    size_t used = adds(__LINE__, 8, 1,
+                       "0000000000000007 00000000000003E8 00 00"
+                       "01 07 0000000000000000 3FF0000000000000 4000000000000000 BFF0000000000000"
+                       "01 02 02  00  02 3FF0000000000000 7FF0000000000001  01 8000000000000000",
+                       &e);
+    used = ADDS(8, used, "02 00 00 00 0000000000000000 0000000000000000 0000000000000000"
+                         "0000000000000000 00 00 00 00",
+                .id = 8, .time = 1000);
+    BODY_CHECK(body, used, DONE, .count = 2);
+    add_fails(__LINE__, 7, sizeof body, 8, used, &e, DEPOT_WAL_WRONG_KIND, 0);
+    start(__LINE__, 7);
+    add_fails(__LINE__, 8, sizeof body, 7, 1, &e, DEPOT_WAL_WRONG_KIND, 0);
+}
+
+/* Lists of more elements than a body has bytes; then the longest body of type 7. */
+static void long_histograms(void)
+{
+    static const int32_t offsets[70000];
+    static const uint32_t lengths[70000];
+    static const uint64_t bits[70000];
+    struct histogram h = {.below = {bits, 65537}};
+    const struct entry e = {.id = 3, .histogram = &h};
+    for (uint8_t kind = 7; kind <= 8; kind++) {
+        start(__LINE__, kind);
+        h = (struct histogram){.below = {bits, 65537}};
+        add_fails(__LINE__, kind, sizeof body, kind, 1, &e, DEPOT_WAL_TOO_LONG, 1);
+        h = (struct histogram){.above = {bits, 70000}};
+        add_fails(__LINE__, kind, sizeof body, kind, 1, &e, DEPOT_WAL_TOO_LONG, 1);
+        h = (struct histogram){.negative = {offsets, 65537, lengths, 65537}};
+        add_fails(__LINE__, kind, sizeof body, kind, 1, &e, DEPOT_WAL_TOO_LONG, 1);
+    }
+    start(__LINE__, 7);
+    /* The type; 18 bytes of the first row; 20 of the numbers; counts of 1, 1, 3 and 1 byte. */
+    h = (struct histogram){.above = {bits, 65536 - 45}};
+    add_fails(__LINE__, 7, 65535, 7, 1, &e, DEPOT_WAL_NO_ROOM, 1);
+    CHECK(GIVES(add(7, sizeof body, 7, 1, &e), DONE, BUILT(.used = 65536)));
+    h.above.len++;
+    add_fails(__LINE__, 7, sizeof body, 7, 1, &e, DEPOT_WAL_TOO_LONG, 1);
+}
+
+/* The errors of the seven additions: BAD_PLACE, WRONG_KIND, BAD_LIST, TOO_LONG, NO_ROOM in this
  * order. */
 static void addition_errors(void)
 {
@@ -991,10 +1157,22 @@ static void addition_errors(void)
                                          {.strings = "abc", .lengths = around, .count = 2},
                                          {.strings = "abc"},
                                          {.lengths = odd, .count = 1}};
-    for (size_t i = 0; i < 5; i++) {
-        uint8_t kind = types[i], other = types[(i + 1) % 5];
-        int rows = kind == DEPOT_WAL_SAMPLES || kind == DEPOT_WAL_EXEMPLARS;
-        int has_strings = kind != DEPOT_WAL_SAMPLES && kind != DEPOT_WAL_TOMBSTONES;
+    /* spans with not as many offsets as lengths, on one side */
+    static const int32_t offsets[2];
+    static const uint32_t ends[2];
+    static const struct histogram uneven[] = {{.positive = {offsets, 1, ends, 0}},
+                                              {.positive = {offsets, 1, ends, 2}},
+                                              {.negative = {offsets, 0, ends, 1}},
+                                              {.negative = {offsets, 2, ends, 1}}};
+    const struct entry spans[] = {{.histogram = &uneven[0]}, {.histogram = &uneven[1]},
+                                  {.histogram = &uneven[2]}, {.histogram = &uneven[3]}};
+    for (size_t i = 0; i < sizeof types; i++) {
+        uint8_t kind = types[i], other = types[(i + 1) % sizeof types];
+        int histogram = kind == DEPOT_WAL_HISTOGRAMS || kind == DEPOT_WAL_FLOAT_HISTOGRAMS;
+        int rows = kind == DEPOT_WAL_SAMPLES || kind == DEPOT_WAL_EXEMPLARS || histogram;
+        const struct entry *bad = histogram ? spans : lists;
+        size_t bads = histogram ? 4
+                      : kind == DEPOT_WAL_SAMPLES || kind == DEPOT_WAL_TOMBSTONES ? 0 : 6;
         start(__LINE__, kind);
         add_fails(__LINE__, kind, 100, kind, 0, &none, DEPOT_WAL_BAD_PLACE, 0);
         add_fails(__LINE__, kind, 100, kind, 101, &none, DEPOT_WAL_BAD_PLACE, 0);
@@ -1004,12 +1182,12 @@ static void addition_errors(void)
         for (size_t used = 2; used <= 16 && rows; used++)
             add_fails(__LINE__, kind, 100, kind, used, &none, DEPOT_WAL_BAD_PLACE, 0);
         body[0] = other;
-        add_fails(__LINE__, kind, 1, other, 1, &lists[0], DEPOT_WAL_WRONG_KIND, 0);
+        add_fails(__LINE__, kind, 1, other, 1, bad, DEPOT_WAL_WRONG_KIND, 0);
         body[0] = 9;
-        add_fails(__LINE__, kind, 1, 9, 1, &lists[0], DEPOT_WAL_WRONG_KIND, 0);
+        add_fails(__LINE__, kind, 1, 9, 1, bad, DEPOT_WAL_WRONG_KIND, 0);
         body[0] = kind;
-        for (size_t k = 0; k < 6 && has_strings; k++)
-            add_fails(__LINE__, kind, sizeof body, kind, 65536, &lists[k], DEPOT_WAL_BAD_LIST, 0);
+        for (size_t k = 0; k < bads; k++)
+            add_fails(__LINE__, kind, sizeof body, kind, 65536, &bad[k], DEPOT_WAL_BAD_LIST, 0);
         add_fails(__LINE__, kind, sizeof body, kind, 65536, &none, DEPOT_WAL_TOO_LONG, 65536);
         add_fails(__LINE__, kind, 65536, kind, 65536, &none, DEPOT_WAL_TOO_LONG, 65536);
         add_fails(__LINE__, kind, sizeof body, kind, 66000, &none, DEPOT_WAL_TOO_LONG, 66000);
@@ -1088,6 +1266,151 @@ static void corrupt_bodies(void)
 
     size_t n = put(body, "06 80808080808080808000 01 00"); /* longer than needed is good: id 0 */
     ENTRY_AT(body, n, 1, DONE, .type = 6, .bits = 1, .strings_at = 13, .next = 13);
+}
+
+/* ---- histograms ---- */
+
+#define HISTOGRAM_AT(bytes, len, place, status, ...)                                 \
+    CHECK(GIVES(depot_wal_histogram_at(bytes, len, place, &out->histogram), status, \
+                HISTOGRAM(__VA_ARGS__)))
+#define SPAN_AT(bytes, len, place, status, ...) \
+    CHECK(GIVES(depot_wal_span_at(bytes, len, place, &out->span), status, SPAN(__VA_ARGS__)))
+#define BUCKET_AT(bytes, len, place, status, ...) \
+    CHECK(GIVES(depot_wal_bucket_at(bytes, len, place, &out->bucket), status, BUCKET(__VA_ARGS__)))
+
+/* Spans at the limits of their 32 bits, and the smallest bucket; without the type byte. */
+#define HISTOGRAM_HEAD " 0000000000000007 00000000000003E8 00 00 03 69 3FF0000000000000"
+#define HISTOGRAM_SPANS " 02  01 02  D804 FFFFFFFF0F  01  FFFFFFFF0F 00"
+static const char whole_histogram[] = "07" HISTOGRAM_HEAD " 05 AC02 4000000000000000"
+    HISTOGRAM_SPANS " 03 7F 02 FFFFFFFFFFFFFFFFFF01  00";
+static const char float_histogram[] =
+    "08" HISTOGRAM_HEAD " 4014000000000000 0000000000000001 4000000000000000" HISTOGRAM_SPANS
+    " 01 7FF8000000000001  02 0000000000000000 FFFFFFFFFFFFFFFF";
+
+/* Type 7: whole numbers. As an entry it is told by its sum. */
+static void histograms_read(void)
+{
+    size_t n = put(body, whole_histogram);
+    BODY_CHECK(body, n, DONE, .count = 1);
+    for (size_t place = 1; place <= 17; place += 16) {
+        HISTOGRAM_AT(body, n, place, DONE, .type = 7, .id = 7, .time = 1000, .hint = 3,
+                     .schema = -53, .zero_threshold = ONE, .zero_count = 5, .count = 300,
+                     .sum = UINT64_C(1) << 62, .positive_spans = {2, 41},
+                     .negative_spans = {1, 51}, .positive_buckets = {3, 58},
+                     .negative_buckets = {0, 71}, .next = 71);
+        ENTRY_AT(body, n, place, DONE, .type = 7, .id = 7, .time = 1000,
+                 .bits = UINT64_C(1) << 62, .strings_at = 71, .next = 71);
+    }
+    HISTOGRAM_AT(body, n, n, DEPOT_WAL_END, 0);
+    SPAN_AT(body, n, 41, DONE, .offset = -1, .length = 2, .next = 43);
+    SPAN_AT(body, n, 43, DONE, .offset = 300, .length = UINT32_MAX, .next = 50);
+    SPAN_AT(body, n, 51, DONE, .offset = INT32_MIN, .length = 0, .next = 57);
+    BUCKET_AT(body, n, 58, DONE, .bits = (uint64_t)-64, .next = 59);
+    BUCKET_AT(body, n, 59, DONE, .bits = 1, .next = 60);
+    BUCKET_AT(body, n, 60, DONE, .bits = UINT64_C(1) << 63, .next = 70);
+
+    /* a second one: id 6 and time 999, signed deltas; every list empty */
+    n += put(body + n, "01 01 00 00 0000000000000000 00 00 0000000000000000 00 00 00 00");
+    BODY_CHECK(body, n, DONE, .count = 2);
+    HISTOGRAM_AT(body, n, 71, DONE, .type = 7, .id = 6, .time = 999, .positive_spans = {0, 94},
+                 .negative_spans = {0, 95}, .positive_buckets = {0, 96},
+                 .negative_buckets = {0, 97}, .next = 97);
+}
+
+/* Type 8: floats, of which every pattern survives. */
+static void float_histograms_read(void)
+{
+    size_t n = put(body, float_histogram);
+    BODY_CHECK(body, n, DONE, .count = 1);
+    HISTOGRAM_AT(body, n, 1, DONE, .type = 8, .id = 7, .time = 1000, .hint = 3, .schema = -53,
+                 .zero_threshold = ONE, .zero_count = 0x4014000000000000u, .count = 1,
+                 .sum = UINT64_C(1) << 62, .positive_spans = {2, 54}, .negative_spans = {1, 64},
+                 .positive_buckets = {1, 71}, .negative_buckets = {2, 80}, .next = 96);
+    ENTRY_AT(body, n, 17, DONE, .type = 8, .id = 7, .time = 1000, .bits = UINT64_C(1) << 62,
+             .strings_at = 96, .next = 96);
+    BUCKET_AT(body, n, 71, DONE, .bits = 0x7FF8000000000001u, .next = 79);
+    BUCKET_AT(body, n, 88, DONE, .bits = TOP, .next = 96);
+    BUCKET_AT(body, n, 89, DEPOT_WAL_SHORT, .bits = 89);
+    SPAN_AT(body, n, 64, DONE, .offset = INT32_MIN, .length = 0, .next = 70);
+}
+
+/* A body whose first histogram is an error, for the check, for the entry and for its own call. */
+static void corrupt_histogram(int line, const char *text, depot_wal_status status, uint64_t at)
+{
+    uint8_t bytes[256];
+    size_t n = put(bytes, text);
+    corrupt(line, text, 1, status, at);
+    check(line, GIVES(depot_wal_histogram_at(bytes, n, 1, &out->histogram), status,
+                      HISTOGRAM(.type = at)),
+          "error of the histogram");
+}
+
+/* SHORT, BAD_VARINT and BAD_RANGE in the fields of a histogram; counts are never multiplied. */
+#define FIRSTS " 0000000000000007 00000000000003E8"
+static void corrupt_histograms(void)
+{
+    static const char numbers[] = " 0000000000000000 00 00 0000000000000000";
+    char text[512];
+    for (int type = 7; type <= 8; type++) {
+        snprintf(text, sizeof text, "%02X 00000000000000", type);
+        corrupt_histogram(__LINE__, text, DEPOT_WAL_SHORT, 1);
+        snprintf(text, sizeof text, "%02X 0000000000000007 00", type);
+        corrupt_histogram(__LINE__, text, DEPOT_WAL_SHORT, 9);
+        snprintf(text, sizeof text, "%02X" FIRSTS " 00 00", type); /* no hint */
+        corrupt_histogram(__LINE__, text, DEPOT_WAL_SHORT, 19);
+        snprintf(text, sizeof text, "%02X" FIRSTS " 00 80808080808080808002", type);
+        corrupt_histogram(__LINE__, text, DEPOT_WAL_BAD_VARINT, 18);
+        /* schemas 2^31 and -2^31 - 1 */
+        snprintf(text, sizeof text, "%02X" FIRSTS " 00 00 00 8080808010", type);
+        corrupt_histogram(__LINE__, text, DEPOT_WAL_BAD_RANGE, 20);
+        snprintf(text, sizeof text, "%02X" FIRSTS " 00 00 00 8180808010", type);
+        corrupt_histogram(__LINE__, text, DEPOT_WAL_BAD_RANGE, 20);
+    }
+    /* a span's offset and length; it ends after its offset; 2^63 spans and 2^61 buckets */
+    snprintf(text, sizeof text, "07" FIRSTS " 00 00 00 00%s 01 8080808010 00", numbers);
+    corrupt_histogram(__LINE__, text, DEPOT_WAL_BAD_RANGE, 40);
+    snprintf(text, sizeof text, "07" FIRSTS " 00 00 00 00%s 01 00 8080808010", numbers);
+    corrupt_histogram(__LINE__, text, DEPOT_WAL_BAD_RANGE, 41);
+    snprintf(text, sizeof text, "07" FIRSTS " 00 00 00 00%s 01 00", numbers);
+    corrupt_histogram(__LINE__, text, DEPOT_WAL_SHORT, 41);
+    snprintf(text, sizeof text, "07" FIRSTS " 00 00 00 00%s 80808080808080808001 00 00", numbers);
+    corrupt_histogram(__LINE__, text, DEPOT_WAL_SHORT, 51);
+    snprintf(text, sizeof text, "07" FIRSTS " 00 00 00 00%s 00 00 808080808080808020", numbers);
+    corrupt_histogram(__LINE__, text, DEPOT_WAL_SHORT, 50);
+    corrupt_histogram(__LINE__,
+                      "08" FIRSTS " 00 00 00 00 0000000000000000 0000000000000000 0000000000000000"
+                      " 0000000000000000 00 00 808080808080808020 0000000000000000",
+                      DEPOT_WAL_SHORT, 72);
+}
+
+/* The calls for histograms alone: EMPTY_BODY, UNKNOWN_TYPE, WRONG_KIND, BAD_PLACE in this order. */
+static void histogram_places(void)
+{
+    static const size_t bad[] = {0, 2, 16, 72, SIZE_MAX};
+    size_t n = put(body, whole_histogram);
+    for (size_t i = 0; i < 5; i++) {
+        HISTOGRAM_AT(body, n, bad[i], DEPOT_WAL_BAD_PLACE, .type = 0);
+        HISTOGRAM_AT(NULL, 0, bad[i], DEPOT_WAL_EMPTY_BODY, .type = 0);
+        SPAN_AT(NULL, 0, bad[i], DEPOT_WAL_EMPTY_BODY, .offset = 0);
+        BUCKET_AT(NULL, 0, bad[i], DEPOT_WAL_EMPTY_BODY, .bits = 0);
+    }
+    HISTOGRAM_AT(body, 16, 16, DEPOT_WAL_BAD_PLACE, .type = 0); /* not an end */
+    HISTOGRAM_AT(body, 17, 17, DEPOT_WAL_END, 0);
+    SPAN_AT(body, n, 0, DEPOT_WAL_BAD_PLACE, .offset = 0);
+    SPAN_AT(body, n, n + 1, DEPOT_WAL_BAD_PLACE, .offset = 0);
+    SPAN_AT(body, n, n, DEPOT_WAL_SHORT, .offset = 71);
+    SPAN_AT(body, n, 8, DONE, .offset = -4, .length = 0, .next = 10); /* any place will do */
+    BUCKET_AT(body, n, 0, DEPOT_WAL_BAD_PLACE, .bits = 0);
+    BUCKET_AT(body, n, n + 1, DEPOT_WAL_BAD_PLACE, .bits = 0);
+    BUCKET_AT(body, n, n, DEPOT_WAL_SHORT, .bits = 71);
+    static const uint8_t others[] = {1, 2, 3, 4, 6, 5, 9};
+    for (size_t i = 0; i < 7; i++) {
+        depot_wal_status status = i < 5 ? DEPOT_WAL_WRONG_KIND : DEPOT_WAL_UNKNOWN_TYPE;
+        body[0] = others[i];
+        HISTOGRAM_AT(body, n, 0, status, .type = 0);
+        SPAN_AT(body, n, 0, status, .offset = 0);
+        BUCKET_AT(body, n, 0, status, .bits = 0);
+    }
 }
 
 /* Places in bodies: EMPTY_BODY, UNKNOWN_TYPE, BAD_PLACE in this order; empty bodies are NULL. */
@@ -1229,6 +1552,21 @@ static void replayed_tombstones(void)
 }
 
 /* 256 series fill the table; a record that brings one more is refused whole. */
+/* Histograms change nothing, and are no unknown type; a refused one stops the replay. */
+static void replayed_histograms(void)
+{
+    uint8_t bytes[128];
+    new_log();
+    LOG(1, {.id = 7});
+    LOG(2, {.id = 7, .time = 1, .bits = 5});
+    log_bytes(bytes, put(bytes, whole_histogram));
+    log_bytes(bytes, put(bytes, float_histogram));
+    replays(__LINE__, DONE, 0, 0, SERIES({.id = 7, .rows = 1, .time = 1, .bits = 5}));
+    size_t at = log_bytes(bytes, put(bytes, "07" FIRSTS " 00 00 00 8080808010"));
+    replays(__LINE__, DEPOT_WAL_BAD_RANGE, at, 0,
+            SERIES({.id = 7, .rows = 1, .time = 1, .bits = 5}));
+}
+
 static void replayed_limit(void)
 {
     static struct entry many[DEPOT_WAL_SERIES_MAX + 1];
@@ -1358,12 +1696,20 @@ int main(int argc, char **argv)
     tombstones();
     exemplars();
     metadata();
+    histograms();
+    float_histograms();
+    long_histograms();
     addition_errors();
     addition_limits();
     corrupt_bodies();
     body_places();
+    histograms_read();
+    float_histograms_read();
+    corrupt_histograms();
+    histogram_places();
     replayed_rows();
     replayed_tombstones();
+    replayed_histograms();
     replayed_limit();
     replayed_unknown();
     replay_errors();

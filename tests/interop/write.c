@@ -1,9 +1,9 @@
 /* Writes a log for stock Prometheus through the library, and beside it what Prometheus has to show
- * for it: the rows as `promtool tsdb dump` prints them (printed.h), and the exemplars with id,
- * value, time and label:
- *     write SEGMENT ROWS EXEMPLARS
- * The last two lines that it prints say how many it wrote. It exits with 1 if the library refuses a
- * call, or if something was not covered that it means to cover.
+ * for it: the rows as `promtool tsdb dump` prints them (printed.h), the exemplars with id, value,
+ * time and label, and the histograms with id, time, numbers and buckets (histograms.h):
+ *     write SEGMENT ROWS EXEMPLARS HISTOGRAMS
+ * The last three lines that it prints say how many it wrote. It exits with 1 if the library refuses
+ * a call, or if something was not covered that it means to cover.
  *
  * What is covered
  *   A row has its id and its time as deltas to the body's first row, each a signed varint: n bytes
@@ -14,7 +14,8 @@
  *     milliseconds either way. Times 2^63 and more apart have deltas that wrap.
  *   There is a series for every pair of an id delta's and a time delta's sign and length, at the
  *   first or last number of that length or next to it. The last rows have the lowest and highest
- *   delta of ids and of times. Exemplars have all of these lengths too.
+ *   delta of ids and of times. Exemplars have all of these lengths too, histograms those of ids,
+ *   and of times lengths 1 to 7: one query reaches no further.
  *   Records of one page and of two and three, and records that end at the end of a page, 1 or 6
  *   bytes before it (padding), and 7 (the next one begins with a fragment of length 0).
  *
@@ -24,6 +25,7 @@
  */
 #include "deltas.h"
 #include "depot_wal.h"
+#include "histograms.h"
 #include "printed.h"
 
 #include <inttypes.h>
@@ -369,6 +371,83 @@ static void write_exemplars(FILE *expected)
     end_body();
 }
 
+/* Histograms have series of their own, because a dump ends a series at its first histogram: one to
+ * begin each body, and one for every pair of an id delta's and a time delta's kind. Those of whole
+ * numbers and of floats have names of their own: if one query finds both, the server of 2.42 shows
+ * a float one in place of each whole one that comes after it. */
+enum { SHOWN_TIMES = 2 * 7, SHOWN_SERIES = 1 + ID_KINDS * SHOWN_TIMES, SHOWN_ROUNDS = 4 };
+
+static uint64_t shown_id(int is_float, unsigned k)
+{
+    const int64_t beside = is_float ? 2000 : 1000; /* the ids of the other series */
+    int kind = (int)(k - 1) / SHOWN_TIMES, nth = (int)(k - 1) % SHOWN_TIMES;
+    int64_t delta = k == 0 ? 0 : delta_of(kind, nth, ID_MAX / 2 - 3000);
+    return MIDDLE_ID + (uint64_t)(delta - beside);
+}
+
+static int64_t shown_time(unsigned k, unsigned round)
+{
+    int kind = (int)(k - 1) % SHOWN_TIMES, nth = (int)(k - 1) / SHOWN_TIMES;
+    return START + STEP * round + (k == 0 ? 0 : delta_of(kind, 2 * nth, OFFSET_MAX));
+}
+
+static void write_shown_series(int is_float)
+{
+    struct depot_wal_built out;
+    start_body(DEPOT_WAL_SERIES);
+    for (unsigned k = 0; k < SHOWN_SERIES; k++) {
+        struct strings s = {.used = 0};
+        char id[24];
+        snprintf(id, sizeof id, "%" PRIu64, shown_id(is_float, k));
+        add_string(&s, "__name__"), add_string(&s, is_float ? "battery_float" : "battery");
+        add_string(&s, "id"), add_string(&s, id);
+        while (!added(depot_wal_add_series(body, sizeof body, type, used, shown_id(is_float, k),
+                                           s.bytes, s.used, s.lengths, s.count, &out),
+                      &out, "depot_wal_add_series"))
+            ;
+    }
+    end_body();
+}
+
+/* A side's spans and its buckets, as arguments. */
+#define SPANS(s) (s).offsets, (s).spans, (s).lengths, (s).spans
+#define BUCKETS(type, s) (const type *)(s).bits, (s).buckets
+
+static unsigned histograms;
+
+static void add_histogram(unsigned k, int64_t time, int is_float, FILE *expected)
+{
+    struct histogram h = histogram_of(histograms++, is_float);
+    uint64_t id = shown_id(is_float, k);
+    struct depot_wal_built out;
+    depot_wal_status status;
+    do
+        status =
+            is_float
+                ? depot_wal_add_float_histogram(
+                      body, sizeof body, type, used, id, time, h.hint, h.schema, h.threshold,
+                      h.zeros, h.count, h.sum, SPANS(h.positive), SPANS(h.negative),
+                      BUCKETS(uint64_t, h.positive), BUCKETS(uint64_t, h.negative), &out)
+                : depot_wal_add_histogram(
+                      body, sizeof body, type, used, id, time, h.hint, h.schema, h.threshold,
+                      h.zeros, h.count, h.sum, SPANS(h.positive), SPANS(h.negative),
+                      BUCKETS(int64_t, h.positive), BUCKETS(int64_t, h.negative), &out);
+    while (!added(status, &out, "the call that adds a histogram"));
+    fprintf(expected, "%" PRIu64 " %" PRId64 " %s\n", id, time, h.shown);
+}
+
+/* In each round every series has one, in one body. */
+static void write_histograms(int is_float, FILE *expected)
+{
+    write_shown_series(is_float);
+    for (unsigned round = 0; round < SHOWN_ROUNDS; round++) {
+        start_body(is_float ? DEPOT_WAL_FLOAT_HISTOGRAMS : DEPOT_WAL_HISTOGRAMS);
+        for (unsigned k = 0; k < SHOWN_SERIES; k++)
+            add_histogram(k, shown_time(k, round), is_float, expected);
+    }
+    end_body();
+}
+
 /* Prometheus decodes metadata, but neither the dump nor the server shows it. */
 static void write_metadata(void)
 {
@@ -409,6 +488,7 @@ static void report_all(void)
     report("exemplars", &of_exemplars);
     printf("interop: %u records, %u above a page, %u of them too full for one more row\n", records,
            long_records, full_records);
+    printf("interop: wrote %u histograms\n", histograms);
     printf("interop: wrote %u exemplars\n", exemplars);
     printf("interop: wrote %u rows of %d series, %u of them then deleted\n", rows, SERIES, deleted);
     fflush(stdout);
@@ -418,6 +498,7 @@ static void report_all(void)
     check(times->low == INT64_MIN && times->high == INT64_MAX, "the same of times");
     check(long_records > full_records && full_records > 1, "long and full records");
     check(rows > deleted && deleted > 0 && exemplars > 0, "rows, some deleted, and exemplars");
+    check(histograms > 0, "histograms");
     check(of_rows.misfits == 0, "every row has the bytes that its deltas ask for");
     check(of_exemplars.misfits == 0, "every exemplar has the bytes that its deltas ask for");
 }
@@ -431,10 +512,11 @@ static FILE *must_open(const char *path)
 
 int main(int argc, char **argv)
 {
-    FILE *to, *expected_rows, *expected_exemplars;
-    check(argc == 4, "three arguments: the segment, the rows and the exemplars, to be written");
+    FILE *to, *expected_rows, *expected_exemplars, *expected_histograms;
+    check(argc == 5, "four arguments: the segment, rows, exemplars, histograms, to be written");
     expected_rows = must_open(argv[2]);
     expected_exemplars = must_open(argv[3]);
+    expected_histograms = must_open(argv[4]);
     make_series();
     write_series();
     write_metadata();
@@ -442,9 +524,12 @@ int main(int argc, char **argv)
     write_page_ends(expected_rows);
     write_ends(expected_rows);
     write_exemplars(expected_exemplars);
+    write_histograms(0, expected_histograms);
+    write_histograms(1, expected_histograms);
     write_tombstones();
     check(fclose(expected_rows) == 0, argv[2]);
     check(fclose(expected_exemplars) == 0, argv[3]);
+    check(fclose(expected_histograms) == 0, argv[4]);
     to = must_open(argv[1]);
     check(fwrite(segment, 1, place, to) == place, argv[1]);
     check(fclose(to) == 0, argv[1]);

@@ -10,7 +10,7 @@ use Rattle.byte_copy.specs.Put.{putAt, putEnd}
 use Rattle.uvarint.specs.Uvarint.{uvarint}
 use Rattle.body_format.specs.Building.{stringBytes, stringsBytes, stringListBytes, cutStrings, total}
 use Rattle.body_format.specs.Laws.Strings.{length-cut, cut-step, total-step}
-use Rattle.body_builder.proofs.Putting.{Put, put-first, room-then, put-then}
+use Rattle.body_builder.specs.Laws.Putting.{Put, put-first, room-then, put-then}
 
 -- the strings from number i on, whose bytes start at `from`
 abbrev rest : List ℕ → List ℕ → ℕ → ℕ → List ℕ

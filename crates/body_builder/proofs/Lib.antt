@@ -1,4 +1,3 @@
-pub mod Putting
+pub mod Adding
 pub mod Sizing
 pub mod Laying
-pub mod Adding

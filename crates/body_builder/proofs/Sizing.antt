@@ -6,33 +6,27 @@ use Prim.Native.Nat.{ℕ, suc, _+_, _-_, _/_, _%_, _≤_, _<_}
 use native.Mathlib.Omega.{arith}
 use native.Mathlib.Numerals.{add-one}
 use borrow.Author.Tests.{ltb-true, eq-eqb, ne-eqb, eqb-true, eqb-false}
+use lib.IntN.{ℤ}
 use lib.Dec.{ltb, eqb}
 use lib.ListN.{length, getD, drop, set, drop-of-length-le, length-drop, length-set}
 use lib.Seq.{drop-cons, sets}
-use Rattle.wal_types.specs.Deltas.{minus, fromBits}
+use Rattle.wal_types.specs.Deltas.{minus, toBits, fromBits}
 use Rattle.byte_copy.specs.Put.{putAt, putEnd}
 use Rattle.uvarint.specs.Uvarint.{uvarint}
 use Rattle.varint.specs.Varint.{zigzag, varint}
 use Rattle.uvarint.specs.UvarintLaws.{one-group, length-at-least-1}
 use Rattle.big_endian.specs.Fixed.{be8, readBe8}
 use Rattle.big_endian.specs.FixedLaws.{length-be8}
-use Rattle.body_format.specs.Building.{stringsBytes, stringListBytes, cutStrings, total, badList, rowBytes}
+use Rattle.body_format.specs.Entries.{seriesEntry, exemplarEntry, metadataEntry}
+use Rattle.body_format.specs.Building.{stringsBytes, stringListBytes, cutStrings, total, badList, rowBytes, entryBytes}
 use Rattle.body_format.specs.Heads.{deltaBytes}
 use Rattle.body_format.specs.Laws.Fields.{length-list}
 use Rattle.body_format.specs.Laws.Heads.{delta-bytes}
-use Rattle.body_format.specs.Laws.Strings.{length-cut, length-cut-strings, row-first, row-later, length-row-first, length-row-later}
-use Rattle.body_builder.specs.declared.builder.Deltas.{Deltas}
+use Rattle.body_format.specs.Laws.Strings.{length-cut, length-cut-strings, row-first, row-later, length-row-first, length-row-later, length-series, length-exemplar, length-metadata}
+use Rattle.body_builder.specs.declared.admission.Deltas.{Deltas}
 use Rattle.body_builder.specs.Sizes.{rowSize, rowTail, deltasIn, zigzagsOf, heads, listSize}
-use Rattle.body_builder.proofs.Putting.{Put, put-last, put-first, room-then, put-then}
-
--- a size n for the true size m: exact, or both are above the limit
-pub data Sized (n m : ℕ) : Type 0 where
-  exact : n ≡ m → Sized n m
-  above : 65536 < n → 65536 < m → Sized n m
-
-pub more : (k : ℕ) {n m : ℕ} → Sized n m → Sized (k + n) (k + m)
-more k (exact e) = exact (ap (λ (x : ℕ). k + x) e)
-more k (above a b) = above (omega arith) (omega arith)
+use Rattle.body_builder.specs.Laws.Putting.{Put, put-last, put-first, room-then, put-then}
+use Rattle.body_builder.specs.Laws.Additions.{Sized, exact, above, both-sized}
 
 -- ---- deltas of one byte each
 
@@ -176,3 +170,21 @@ module _ (b d₁ d₂ : List ℕ) (u p q id time v : ℕ) (first : u ≡ 1) (roo
       rw bytes
       (put-then b d₁ u p (be8 id) (be8 time ++ rowTail 0 0 v) room₀ d₃ r one
       (put-then d₁ d₂ p q (be8 time) (rowTail 0 0 v) room₁ d₃ r two three))
+
+-- ---- the sizes of entries with strings
+
+module _ (b : List ℕ) (u : ℕ) (strings lengths : List ℕ) (list : ℕ) (e : list ≡ listSize (length strings) lengths)
+    (good : badList strings lengths ≡ false) where
+  listed : Sized list (length (stringListBytes (cutStrings strings lengths)))
+  listed = rw e (list-sized strings lengths (good-sum strings lengths good))
+
+  pub series-sized : (id : ℕ) → Sized (8 + list) (length (entryBytes b u (seriesEntry id (cutStrings strings lengths))))
+  series-sized id = rw (length-series b u id (cutStrings strings lengths)) (both-sized (exact refl) listed)
+
+  pub exemplar-sized : (id : ℕ) (time : ℤ) (v row : ℕ) → row ≡ length (rowBytes b u id (toBits time) v)
+      → Sized (row + list) (length (entryBytes b u (exemplarEntry id time v (cutStrings strings lengths))))
+  exemplar-sized id time v row h = rw (length-exemplar b u id time v (cutStrings strings lengths), ← h) (both-sized (exact refl) listed)
+
+  pub metadata-sized : (id m head : ℕ) → head ≡ length (uvarint id) + 1
+      → Sized (head + list) (length (entryBytes b u (metadataEntry id m (cutStrings strings lengths))))
+  metadata-sized id m head h = rw (length-metadata b u id m (cutStrings strings lengths), ← h) (both-sized (exact refl) listed)

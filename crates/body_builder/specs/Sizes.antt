@@ -16,9 +16,9 @@ use Rattle.varint.specs.Varint.{zigzag, varint}
 use Rattle.big_endian.specs.Fixed.{be8, readBe8}
 use Rattle.body_format.specs.Entries.{Known, known, unknown}
 use Rattle.body_format.specs.Building.{Outcome, used, refused, badState}
-use Rattle.body_builder.specs.declared.builder.Gate.{Gate}
-use Rattle.body_builder.specs.declared.builder.Gate.the-variants.{Open, Shut}
-use Rattle.body_builder.specs.declared.builder.Deltas.{Deltas}
+use Rattle.body_builder.specs.declared.admission.Gate.{Gate}
+use Rattle.body_builder.specs.declared.admission.Gate.the-variants.{Open, Shut}
+use Rattle.body_builder.specs.declared.admission.Deltas.{Deltas}
 
 -- whether a byte is the tag of a type
 abbrev pub isKnown : Known → Bool

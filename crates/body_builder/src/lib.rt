@@ -1,24 +1,25 @@
 // Building a record body in a caller-owned buffer, entry by entry. The answers, and every byte of
 // the buffer afterwards, are those of body_format's definitions (FORMAT 10).
+pub mod admission;
 mod builder;
 mod strings;
 
+use admission::Gate;
+use admission::admit;
+use admission::deltas_of;
+use admission::is_known;
+use admission::zigzags;
 use body_format::EXEMPLARS;
 use body_format::METADATA;
 use body_format::SAMPLES;
 use body_format::SERIES;
 use body_format::TOMBSTONES;
-use builder::Gate;
-use builder::admit;
-use builder::deltas_of;
-use builder::is_known;
 use builder::put_metadata;
 use builder::put_row;
 use builder::put_series;
 use builder::put_tombstone;
 use builder::row_size;
 use builder::tombstone_size;
-use builder::zigzags;
 use strings::list_is_bad;
 use strings::list_size;
 use strings::put_list;

@@ -15,7 +15,8 @@ use Rattle.uvarint.specs.Uvarint.{uvarint}
 use Rattle.varint.specs.Varint.{varint}
 use Rattle.big_endian.specs.Fixed.{be8}
 use Rattle.body_format.specs.Heads.{headBytes}
-use Rattle.body_format.specs.Entries.{typeByte, Known, known, unknown, bodyTypeOf, rowsKnown, Entry, seriesEntry, sampleEntry, tombstoneEntry, exemplarEntry, metadataEntry, bodyTypeFor}
+use Rattle.body_format.specs.Histograms.{histogramBytes}
+use Rattle.body_format.specs.Entries.{typeByte, Known, known, unknown, bodyTypeOf, rowsKnown, Entry, seriesEntry, sampleEntry, tombstoneEntry, exemplarEntry, metadataEntry, histogramEntry, bodyTypeFor}
 
 -- ---- the bytes of an entry
 
@@ -42,6 +43,7 @@ entryBytes b used (sampleEntry id time v) = rowBytes b used id (toBits time) v
 entryBytes b used (tombstoneEntry id min max) = be8 id ++ (varint min ++ varint max)
 entryBytes b used (exemplarEntry id time v ts) = rowBytes b used id (toBits time) v ++ stringListBytes ts
 entryBytes b used (metadataEntry id metric ts) = uvarint id ++ (metric ∷ stringListBytes ts)
+entryBytes b used (histogramEntry k h) = histogramBytes b used k h
 
 -- ---- strings as the caller gives them: one slice of bytes, and one of lengths
 
@@ -79,13 +81,13 @@ startBytes (used n) b t = sets b 0 (t ∷ [])
 startBytes (refused why) b t = b
 
 -- A state is the tag t and the u bytes used. BadPlace (FORMAT 10.5): u is 0, or more than the
--- buffer has, or 2 to 16 for types 2 and 4, or the buffer's first byte is not t.
+-- buffer has, or 2 to 16 for a type with rows, or the buffer's first byte is not t.
 unfoldable pub badState : List ℕ → ℕ → ℕ → Bool
 badState b t u =
     eqb u 0 || (ltb (length b) u || ((rowsKnown (bodyTypeOf t) && (leb 2 u && leb u 16)) || not (eqb (getD b 0 0) t)))
 
--- adding an entry to the state (t, u) of a body in buffer b, where `bad` says whether its list of
--- strings is bad. In this order (FORMAT 10.5): BadPlace, WrongKind, BadList, TooLong, NoRoom.
+-- adding an entry to the state (t, u) of a body in buffer b, where `bad` says whether a list of it
+-- is bad. In this order (FORMAT 10.5): BadPlace, WrongKind, BadList, TooLong, NoRoom.
 unfoldable pub add : List ℕ → ℕ → ℕ → Entry → Bool → Outcome
 add b t u e bad =
     cond (badState b t u) (refused BadPlace)

@@ -1,4 +1,4 @@
--- FORMAT 9: the five types of a body, the layout of each one's entries, and the list of entries
+-- FORMAT 9: the seven types of a body, the layout of each one's entries, and the list of entries
 -- that a body holds.
 -- To be believed. Assumes nothing.
 use mathlib.Core.Bool.{Bool, true, false, cond}
@@ -7,13 +7,17 @@ use Prim.Native.Nat.{ℕ, zero, suc}
 use lib.IntN.{ℤ}
 use lib.ListN.{length}
 use lib.Dec.{eqb}
+use Rattle.body_format.specs.declared.BucketKind.{BucketKind}
+use Rattle.body_format.specs.declared.BucketKind.the-variants.{Whole, Float}
 use Rattle.body_format.specs.Fields.{Field, got, andThen, byteAt, fixedAt, uvarintAt, varintAt, stringListAt}
 use Rattle.body_format.specs.Heads.{headAt}
+use Rattle.body_format.specs.Histograms.{Span, Histogram, histogramAt, bare}
 
 -- ---- types
 
 pub data BodyType : Type 0 where
   series samples tombstones exemplars metadata : BodyType
+  histograms : BucketKind → BodyType
 
 -- the tag of each: a body's first byte (FORMAT 9.1)
 abbrev pub typeByte : BodyType → ℕ
@@ -22,6 +26,8 @@ typeByte samples = 2
 typeByte tombstones = 3
 typeByte exemplars = 4
 typeByte metadata = 6
+typeByte (histograms Whole) = 7
+typeByte (histograms Float) = 8
 
 -- the type that a byte is the tag of, or none
 pub data Known : Type 0 where
@@ -34,15 +40,18 @@ bodyTypeOf b =
     (cond (eqb b (typeByte samples)) (known samples)
     (cond (eqb b (typeByte tombstones)) (known tombstones)
     (cond (eqb b (typeByte exemplars)) (known exemplars)
-    (cond (eqb b (typeByte metadata)) (known metadata) unknown))))
+    (cond (eqb b (typeByte metadata)) (known metadata)
+    (cond (eqb b (typeByte (histograms Whole))) (known (histograms Whole))
+    (cond (eqb b (typeByte (histograms Float))) (known (histograms Float)) unknown))))))
 
--- samples and exemplars have rows, after a first id and a first timestamp (FORMAT 9.3)
+-- samples, exemplars and histograms have rows, after a first id and a first timestamp (FORMAT 9.3)
 abbrev pub hasRows : BodyType → Bool
 hasRows series = false
 hasRows samples = true
 hasRows tombstones = false
 hasRows exemplars = true
 hasRows metadata = false
+hasRows (histograms k) = true
 
 -- whether a tag is that of a type with rows
 abbrev pub rowsKnown : Known → Bool
@@ -59,6 +68,7 @@ pub data Entry : Type 0 where
   tombstoneEntry : ℕ → ℤ → ℤ → Entry
   exemplarEntry : ℕ → ℤ → ℕ → List (List ℕ) → Entry
   metadataEntry : ℕ → ℕ → List (List ℕ) → Entry
+  histogramEntry : BucketKind → Histogram (List Span) (List ℕ) → Entry
 
 -- the type of the bodies that an entry belongs in
 abbrev pub bodyTypeFor : Entry → BodyType
@@ -67,6 +77,7 @@ bodyTypeFor (sampleEntry id time bits) = samples
 bodyTypeFor (tombstoneEntry id min max) = tombstones
 bodyTypeFor (exemplarEntry id time bits ts) = exemplars
 bodyTypeFor (metadataEntry id metric ts) = metadata
+bodyTypeFor (histogramEntry k h) = histograms k
 
 -- an entry, and the place where its strings begin; where it has none, that is the place after it
 pub record Placed : Type 0 where
@@ -121,12 +132,18 @@ metadataAt s p =
     andThen (stringListAt s r) (λ l next.
     got (record { entry = metadataEntry id metric (l .strings); first = l .first }) next)))
 
+-- 7, 8: a histogram
+unfoldable pub histogramEntryAt : BucketKind → List ℕ → ℕ → Field Placed
+histogramEntryAt k s p =
+    andThen (histogramAt k s p) (λ h next. got (record { entry = histogramEntry k (bare h); first = next }) next)
+
 abbrev pub entryAt : BodyType → List ℕ → ℕ → Field Placed
 entryAt series s p = seriesAt s p
 entryAt samples s p = sampleAt s p
 entryAt tombstones s p = tombstoneAt s p
 entryAt exemplars s p = exemplarAt s p
 entryAt metadata s p = metadataAt s p
+entryAt (histograms k) s p = histogramEntryAt k s p
 
 -- ---- the list of entries
 

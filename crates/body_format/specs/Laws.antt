@@ -3,6 +3,7 @@ pub mod Fields
 pub mod Heads
 pub mod Bounds
 pub mod Kept
+pub mod Histograms
 pub mod Types
 pub mod Lists
 pub mod OfType
@@ -12,5 +13,6 @@ pub mod Entries
 pub mod Additions
 pub mod Bodies
 pub mod Places
+pub mod Elements
 pub mod Walks
 pub mod Built

@@ -1,5 +1,6 @@
 pub mod Fields
 pub mod Heads
+pub mod Histograms
 pub mod Entries
 pub mod Reading
 pub mod Building

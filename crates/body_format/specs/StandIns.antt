@@ -21,10 +21,10 @@ use Rattle.body_format.specs.declared.CheckAnswer.the-variants.{Entries,
 use Rattle.body_format.specs.declared.EntryAnswer.the-variants.{End}
 use Rattle.body_format.specs.Fields.{got, fixedAt, uvarintAt, varintAt}
 use Rattle.body_format.specs.Entries.{tombstones, bodyTypeOf, Entry, sampleEntry, tombstoneEntry, rowAt, sampleAt, tombstoneAt, entriesFrom, entries}
-use Rattle.body_format.specs.Reading.{checkBody, entryOrEnd, badPlace, readEntry, readString}
+use Rattle.body_format.specs.Reading.{checkBody, placeOrEnd, badPlace, entryPlace, readEntry}
 use Rattle.body_format.specs.Heads.{deltaBytes, deltaAt, headAt, headBytes}
 use Rattle.body_format.specs.Building.{rowBytes, entryBytes, Outcome, used, refused, start, badState, add}
-use Rattle.body_format.specs.Calls.{Addition, addSeries, addSample, addTombstone, addExemplar, addMetadata, entryFor, listIsBad, BuildResult, Builder, starter, builder, finalBuffer, finalUsed, Checker, EntryReader, StringReader, BodyCalls, Walks}
+use Rattle.body_format.specs.Calls.{Addition, addSeries, addSample, addTombstone, addExemplar, addMetadata, addHistogram, entryFor, listIsBad, BuildResult, Builder, starter, builder, finalBuffer, finalUsed, Checker, EntryReader, StringReader, HistogramReader, SpanReader, BucketReader, BodyCalls, bodyCalls, Walks}
 use Rattle.body_format.specs.Calls.Walks.{next, done}
 use Rattle.body_format.specs.Claims.{Demand2}
 
@@ -58,18 +58,18 @@ pub one-too-many : (C : BodyCalls) → ((s : List ℕ) → C .check s ≡ oneMor
 one-too-many C many d = invented C 2 (many oneTombstone ∙ ap oneMore one-counted) (λ z. omega arith) d
 
 -- a reader that ends at once walks no entry
-no-walk : (E : EntryReader) (S : StringReader) (s : List ℕ) (p : ℕ) (es : List Entry)
-    → ((t : List ℕ) (q : ℕ) → E t q ≡ End)
-    → Walks E S s p es
+no-walk : (C : BodyCalls) (s : List ℕ) (p : ℕ) (es : List Entry)
+    → ((t : List ℕ) (q : ℕ) → C .entry t q ≡ End)
+    → Walks C s p es
     → length es ≡ 0
-no-walk E S s p es ends (next first e w rest) = absurd (let h = ends s p in let z : _≡_ {A = ℕ} 0 1 = cc in omega arith)
-no-walk E S s p es ends (done e) = refl
+no-walk C s p es ends (next first e w f rest) = absurd (let h = ends s p in let z : _≡_ {A = ℕ} 0 1 = cc in omega arith)
+no-walk C s p es ends (done e) = refl
 
 -- and so does not keep the demand
 pub always-ends : (C : BodyCalls) → ((s : List ℕ) (p : ℕ) → C .entry s p ≡ End) → Demand2 C → ⊥
 unfolding oneTombstone bodyTypeOf
 always-ends C ends d =
-    let z : _≡_ {A = ℕ} 1 0 = no-walk (C .entry) (C .string) oneTombstone 1 _ ends (d .walks 3 _ tombstones _ 11 refl one-entry) in omega arith
+    let z : _≡_ {A = ℕ} 1 0 = no-walk C oneTombstone 1 _ ends (d .walks 3 _ tombstones _ 11 refl one-entry) in omega arith
 
 -- the addition of that tombstone, to a started body in a buffer of 11 bytes, all 255 before
 addition : Addition
@@ -104,11 +104,11 @@ nothing-there : checkBody (take (finalUsed writesNothing 3 (starter eleven 3 .bu
 unfolding eleven addition finalUsed finalBuffer start bodyTypeOf add badState entryBytes be8 be4 varint zigzag uvarint groups checkBody entries entriesFrom tombstoneAt fixedAt varintAt readVarint signed unzigzag readUvarint readGroups after readBe8 readBe4
 nothing-there = refl
 
-pub nothing-down : (C : Checker) (E : EntryReader) (S : StringReader)
-    → Demand2 (record { start = starter; add = writesNothing; check = C; entry = E; string = S })
+pub nothing-down : (C : Checker) (E : EntryReader) (S : StringReader) (H : HistogramReader) (P : SpanReader) (U : BucketReader)
+    → Demand2 (record { start = starter; add = writesNothing; check = C; entry = E; string = S; histogram = H; span = P; bucket = U })
     → ⊥
 unfolding addition eleven start bodyTypeOf
-nothing-down C E S d =
+nothing-down C E S H P U d =
     let z : _≡_ {A = ℕ} 0 1 =
     cc (sym nothing-there ∙ sym (d .counts _) ∙ d .back eleven 3 (addition ∷ []) ((omega arith, omega arith, omega arith), tt) refl .0) in
     omega arith
@@ -130,6 +130,7 @@ shiftsFirst b t u (addSample id time v) = record {
 shiftsFirst b t u (addTombstone id min max) = builder b t u (addTombstone id min max)
 shiftsFirst b t u (addExemplar id time v bytes lengths) = builder b t u (addExemplar id time v bytes lengths)
 shiftsFirst b t u (addMetadata id metric bytes lengths) = builder b t u (addMetadata id metric bytes lengths)
+shiftsFirst b t u (addHistogram k h n l) = builder b t u (addHistogram k h n l)
 
 -- the first sample, of id 7, in a started body of 27 bytes
 abbrev fresh : List ℕ
@@ -139,9 +140,9 @@ abbrev seven : Addition
 seven = addSample 7 (pos 0) 0
 
 -- an example that reading back alone does not find it: the sample comes out as it was put in
-pub shifted-walks : Walks readEntry readString (shiftsFirst fresh 2 1 seven .buffer) 1 (entryFor seven ∷ [])
-unfolding add badState bodyTypeOf entryBytes rowBytes headBytes deltaBytes be8 be4 varint zigzag uvarint groups minus plus toBits fromBits readEntry entryOrEnd badPlace fixedAt sampleAt rowAt headAt deltaAt varintAt readVarint signed unzigzag readUvarint readGroups after readBe8 readBe4
-shifted-walks = next 27 refl tt (done refl)
+pub shifted-walks : Walks bodyCalls (shiftsFirst fresh 2 1 seven .buffer) 1 (entryFor seven ∷ [])
+unfolding add badState bodyTypeOf entryBytes rowBytes headBytes deltaBytes be8 be4 varint zigzag uvarint groups minus plus toBits fromBits readEntry placeOrEnd entryPlace badPlace fixedAt sampleAt rowAt headAt deltaAt varintAt readVarint signed unzigzag readUvarint readGroups after readBe8 readBe4
+shifted-walks = next 27 refl tt tt (done refl)
 
 -- the bytes do: byte 8, the last of the first id, is 7 and not 6
 pub shifts-first : (C : BodyCalls) → ((b : List ℕ) (t u : ℕ) (a : Addition) → C .add b t u a ≡ shiftsFirst b t u a) → Demand2 C → ⊥

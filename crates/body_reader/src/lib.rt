@@ -1,25 +1,35 @@
-// A record body in a caller-owned slice: checked whole, and read entry by entry and string by
-// string. The answers are those of body_format's definitions (FORMAT 11).
+// A record body in a caller-owned slice: checked whole, and read entry by entry, string by string,
+// and of a histogram span by span and bucket by bucket. The answers are those of body_format's definitions (FORMAT 11).
 mod places;
 mod tags;
 
 use body_fields::Place;
 use body_fields::StringRead;
 use body_fields::string_field_at;
+use body_format::BucketAnswer;
 use body_format::CheckAnswer;
 use body_format::EntryAnswer;
+use body_format::HistogramAnswer;
+use body_format::SpanAnswer;
 use body_format::StringAnswer;
+use body_histogram::histogram_as_entry;
+use body_histogram::histogram_entry;
 use body_plain::plain_entry;
 use body_rows::row_entry;
 use places::count_entries;
 use places::entries_begin;
 use tags::BodyLayout;
+use tags::KindRead;
 use tags::TypeRead;
 use tags::body_type;
+use tags::bucket_kind;
 use wal_types::Offset;
 use wal_types::Refusal;
 ghost use mathlib.Core.Path.{_≡_};
-ghost use Rattle.body_format.specs.Reading.{checkBody, readEntry, readString};
+ghost use mathlib.Core.Bool.{_||_};
+ghost use lib.Dec.{ltb, eqb};
+ghost use lib.ListN.{length};
+ghost use Rattle.body_format.specs.Reading.{checkBody, readEntry, readString, readHistogram, readSpan, readBucket};
 
 // The number of entries of a body, or the refusal (FORMAT 11.2).
 pub fn check(body: &[u8]) -> CheckAnswer
@@ -44,6 +54,7 @@ pub fn entry_at(body: &[u8], place: Offset) -> EntryAnswer
         TypeRead::Known(layout) => match layout {
             BodyLayout::Rows { labelled } => row_entry(body, labelled, at),
             BodyLayout::Plain(plain) => plain_entry(body, plain, at),
+            BodyLayout::Histograms(kind) => histogram_as_entry(body, kind, at),
         },
         TypeRead::Refused(why) => EntryAnswer::Refused(why),
     }
@@ -75,5 +86,57 @@ pub fn string_at(body: &[u8], place: Offset) -> StringAnswer
             }
         }
         TypeRead::Refused(why) => StringAnswer::Refused(why),
+    }
+}
+
+// The histogram at a place of a body (FORMAT 11.6); its places are those of `entry_at`.
+pub fn histogram_at(body: &[u8], place: Offset) -> HistogramAnswer
+    ensures { λ r. ⌜ r ≡ readHistogram (now (body .entry)) (place .0) ⌝ }
+{
+    match bucket_kind(body) {
+        KindRead::Known(kind) => histogram_entry(body, kind, place.0),
+        KindRead::Refused(why) => HistogramAnswer::Refused(why),
+    }
+}
+
+// Whether a place is 0 or past the body.
+fn is_outside(body: &[u8], at: usize) -> bool
+    ensures { λ r. ⌜ r ≡ eqb at 0 || ltb (length (now (body .entry))) at ⌝ }
+{
+    if at == 0 {
+        return true;
+    }
+    body.len() < at
+}
+
+// The span at a place of a body (FORMAT 11.7).
+pub fn span_at(body: &[u8], place: Offset) -> SpanAnswer
+    ensures { λ r. ⌜ r ≡ readSpan (now (body .entry)) (place .0) ⌝ }
+{
+    let at = place.0;
+    match bucket_kind(body) {
+        KindRead::Known(_) => {
+            if is_outside(body, at) {
+                return SpanAnswer::Refused(Refusal::BadPlace);
+            }
+            body_histogram::fields::span_at(body, at)
+        }
+        KindRead::Refused(why) => SpanAnswer::Refused(why),
+    }
+}
+
+// The bucket at a place of a body (FORMAT 11.7), of the body's kind.
+pub fn bucket_at(body: &[u8], place: Offset) -> BucketAnswer
+    ensures { λ r. ⌜ r ≡ readBucket (now (body .entry)) (place .0) ⌝ }
+{
+    let at = place.0;
+    match bucket_kind(body) {
+        KindRead::Known(kind) => {
+            if is_outside(body, at) {
+                return BucketAnswer::Refused(Refusal::BadPlace);
+            }
+            body_histogram::fields::bucket_at(body, kind, at)
+        }
+        KindRead::Refused(why) => BucketAnswer::Refused(why),
     }
 }

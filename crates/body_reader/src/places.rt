@@ -2,6 +2,7 @@
 use crate::tags::BodyLayout;
 use body_fields::Place;
 use body_format::CheckAnswer;
+use body_histogram::histogram_end;
 use body_plain::plain_end;
 use body_rows::row_entry_end;
 use body_rows::rows_begin;
@@ -21,6 +22,7 @@ pub(crate) fn entries_begin(body: &[u8], layout: BodyLayout) -> Place
     match layout {
         BodyLayout::Rows { labelled: _ } => rows_begin(body),
         BodyLayout::Plain(_) => Place::At(1),
+        BodyLayout::Histograms(_) => rows_begin(body),
     }
 }
 
@@ -31,6 +33,7 @@ fn entry_end(body: &[u8], layout: BodyLayout, at: usize) -> Place
     match layout {
         BodyLayout::Rows { labelled } => row_entry_end(body, labelled, at),
         BodyLayout::Plain(plain) => plain_end(body, plain, at),
+        BodyLayout::Histograms(kind) => histogram_end(body, kind, at),
     }
 }
 

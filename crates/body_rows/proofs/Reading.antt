@@ -1,13 +1,15 @@
 -- What the fields of a row and of an entry of rows give, fault by fault, in the code's forms.
 use mathlib.Core.Bool.{Bool, true, false}
-use mathlib.Core.Path.{_≡_, refl, _∙_}
+use mathlib.Core.Path.{_≡_, refl, ap₂, _∙_}
 use mathlib.Core.List.{List}
 use Prim.Native.Nat.{ℕ}
-use lib.IntN.{pos}
+use lib.IntN.{ℤ, pos}
 use Rattle.wal_types.specs.declared.Refusal.{Refusal}
 use Rattle.wal_types.specs.declared.SeriesId.{SeriesId}
 use Rattle.wal_types.specs.declared.Timestamp.{Timestamp}
 use Rattle.wal_types.specs.Terms.{offset, seriesId, timestamp}
+use Rattle.wal_types.specs.Deltas.{plus, toBits, fromBits}
+use Rattle.varint.specs.Varint.{unzigzag}
 use Rattle.body_format.specs.declared.EntryAnswer.the-variants.{Found, Refused}
 use Rattle.body_format.specs.Fields.{Field, got, fault, StringList, fixedAt, uvarintAt, stringListAt}
 use Rattle.body_format.specs.Heads.{headAt}
@@ -18,7 +20,8 @@ use Rattle.body_fields.specs.Readings.{stringListRead}
 use Rattle.body_fields.specs.Laws.{never}
 use Rattle.body_rows.specs.declared.RowRead.{RowRead}
 use Rattle.body_rows.specs.declared.RowRead.the-variants as row
-use Rattle.body_rows.specs.Rows.{rowsType}
+use Rattle.body_rows.specs.declared.HeadRead.the-variants as head
+use Rattle.body_rows.specs.Rows.{rowsType, headRead}
 use Rattle.body_rows.specs.Forms.{BaseIn, rowRead, rowGot, exemplarOf}
 
 -- ---- what a row that was read says
@@ -61,6 +64,26 @@ module _ (s : List ℕ) (p : ℕ) where
       → found ≡ rowRead (rowAt s p)
   unfolding rowAt headAt
   row-all {q = q} g h i j b = g ∙ rw (delta-got s p _ _ h, delta-got s q _ _ i, j, b .same-id, b .same-time)
+
+  -- ---- the head of a row alone
+
+  pub head-1 : {why : Refusal} → uvarintAt s p ≡ fault why → head.Fault why ≡ headRead (headAt s p)
+  unfolding headAt
+  head-1 h = rw (delta-fault s p _ h)
+
+  pub head-2 : {d q : ℕ} {why : Refusal} → uvarintAt s p ≡ got d q → uvarintAt s q ≡ fault why
+      → head.Fault why ≡ headRead (headAt s p)
+  unfolding headAt
+  head-2 {q = q} h i = rw (delta-got s p _ _ h, delta-fault s q _ i)
+
+  pub head-all : {d q e next : ℕ} {first : SeriesId} {zero : Timestamp} (id : SeriesId) (time : Timestamp)
+      → uvarintAt s p ≡ got d q → uvarintAt s q ≡ got e next → BaseIn s first zero
+      → id .0 ≡ plus (first .0) (toBits (unzigzag d)) → time .0 ≡ fromBits (plus (toBits (zero .0)) (toBits (unzigzag e)))
+      → head.Got id time next ≡ headRead (headAt s p)
+  unfolding headAt
+  head-all {q = q} {next = next} id time h i b a z =
+      rw (delta-got s p _ _ h, delta-got s q _ _ i, ← b .same-id, ← b .same-time)
+      (ap₂ (λ (m : ℕ) (n : ℤ). head.Got (seriesId m) (timestamp n) next) a z)
 
   -- ---- a row, and its labels
 

@@ -1,5 +1,6 @@
 // Types 2 and 4 (FORMAT 9.3): rows, after a first id and a first timestamp. Each is read at its
-// place, or only walked over to its end: counting needs no more.
+// place, or only walked over to its end: counting needs no more. What histograms share with them is
+// here too: the head of a row, and where the row of a place is.
 use body_fields::NumberRead;
 use body_fields::Place;
 use body_fields::StringListRead;
@@ -11,6 +12,7 @@ use body_fields::string_list_at;
 use body_fields::uvarint_at;
 use body_format::EXEMPLARS;
 use body_format::EntryAnswer;
+use body_format::EntryPlace;
 use body_format::EntryView;
 use body_format::SAMPLES;
 use delta::delta_of_zigzag;
@@ -28,11 +30,12 @@ ghost use lib.ListN.{length};
 ghost use Rattle.wal_types.specs.Deltas.{plus, toBits, fromBits};
 ghost use Rattle.varint.specs.Varint.{unzigzag};
 ghost use Rattle.body_format.specs.Fields.{stringListAt};
-ghost use Rattle.body_format.specs.Entries.{known, firstAt, rowAt, entryAt};
-ghost use Rattle.body_format.specs.Reading.{answerEntry, entryKnown};
+ghost use Rattle.body_format.specs.Heads.{headAt};
+ghost use Rattle.body_format.specs.Entries.{BodyType, hasRows, known, firstAt, rowAt, entryAt};
+ghost use Rattle.body_format.specs.Reading.{answerEntry, entryKnown, placeOrEnd, firstPlace, entryPlace};
 ghost use Rattle.body_fields.specs.Readings.{stringListRead};
 ghost use Rattle.body_fields.specs.Ends.{endOf};
-ghost use Rattle.body_rows.specs.Rows.{rowsType, placeRead};
+ghost use Rattle.body_rows.specs.Rows.{rowsType, placeRead, headRead};
 ghost use Rattle.body_rows.specs.Forms.{BaseIn, rowRead, rowGot, isShortRow, exemplarOf, rowPlace};
 
 // The place after the first id and the first timestamp.
@@ -53,6 +56,16 @@ enum RowRead {
         id: SeriesId,
         time: Timestamp,
         bits: u64,
+        next: usize,
+    },
+    Fault(Refusal),
+}
+
+// A row's id and time, and the place after its head.
+pub enum HeadRead {
+    Got {
+        id: SeriesId,
+        time: Timestamp,
         next: usize,
     },
     Fault(Refusal),
@@ -180,6 +193,32 @@ fn row_end(body: &[u8], at: usize) -> Place
         return Place::At(next);
     }
     long_row_end(body, at)
+}
+
+// The head of a row alone: id delta and timestamp delta.
+pub fn head_at(body: &[u8], at: usize) -> HeadRead
+    ensures { λ r. ⌜ r ≡ headRead (headAt (now (body .entry)) at) ⌝ }
+{
+    match uvarint_at(body, at) {
+        NumberRead::Got {
+            value: id_zigzag,
+            next: second,
+        } => match uvarint_at(body, second) {
+            NumberRead::Got {
+                value: time_zigzag,
+                next,
+            } => {
+                let base = base_of(body);
+                HeadRead::Got {
+                    id: id_plus(base.id, delta_of_zigzag(id_zigzag)),
+                    time: row_time(base.time, time_zigzag),
+                    next,
+                }
+            }
+            NumberRead::Fault(why) => HeadRead::Fault(why),
+        },
+        NumberRead::Fault(why) => HeadRead::Fault(why),
+    }
 }
 
 // ---- a row, and its labels
@@ -320,4 +359,43 @@ pub fn row_entry(body: &[u8], labelled: bool, at: usize) -> EntryAnswer
     }
     let base = base_of(body);
     row_entry_at(body, labelled, base.id, base.time, from)
+}
+
+// An entry at a place, or the plain end at the body's end.
+fn place_or_end(body: &[u8], at: usize) -> EntryPlace
+    ensures { λ r. ⌜ r ≡ placeOrEnd (now (body .entry)) at ⌝ }
+{
+    if at == body.len() {
+        return EntryPlace::End;
+    }
+    EntryPlace::At(Offset(at))
+}
+
+// Where the first entry of a body with rows is.
+fn first_place(body: &[u8]) -> EntryPlace
+    ensures { λ r. ⌜ r ≡ firstPlace (now (body .entry)) (firstAt true (now (body .entry))) ⌝ }
+{
+    match rows_begin(body) {
+        Place::At(first) => place_or_end(body, first),
+        Place::Fault(why) => EntryPlace::Refused(why),
+    }
+}
+
+// Where the entry of a place is (FORMAT 11.3), in a body of any type with rows.
+pub fn row_entry_place(body: &[u8], at: usize) -> EntryPlace
+    ensures { λ r. ⌜ ((k : BodyType) → hasRows k ≡ true → r ≡ entryPlace k (now (body .entry)) at) ⌝ }
+{
+    if at == 0 {
+        return EntryPlace::Refused(Refusal::BadPlace);
+    }
+    if body.len() < at {
+        return EntryPlace::Refused(Refusal::BadPlace);
+    }
+    if at == 1 {
+        return first_place(body);
+    }
+    if at < ROWS {
+        return EntryPlace::Refused(Refusal::BadPlace);
+    }
+    place_or_end(body, at)
 }

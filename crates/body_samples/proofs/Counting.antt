@@ -35,9 +35,10 @@ checked (b ∷ s) l h = rw (typed samples (b ∷ s) l h, h, type-known samples)
 
 pub untyped : (s : List ℕ) → 0 < length s
     → (getD s 0 0 ≡ 1 → ⊥) → (getD s 0 0 ≡ 2 → ⊥) → (getD s 0 0 ≡ 3 → ⊥) → (getD s 0 0 ≡ 4 → ⊥) → (getD s 0 0 ≡ 6 → ⊥)
+    → (getD s 0 0 ≡ 7 → ⊥) → (getD s 0 0 ≡ 8 → ⊥)
     → samplesIn s ≡ fault UnknownType
 unfolding samplesIn
-untyped (b ∷ s) l n1 n2 n3 n4 n6 = ap (λ n. samplesKnown n (b ∷ s)) (type-unknown b n1 n2 n3 n4 n6)
+untyped (b ∷ s) l n1 n2 n3 n4 n6 n7 n8 = ap (λ n. samplesKnown n (b ∷ s)) (type-unknown b n1 n2 n3 n4 n6 n7 n8)
 
 -- ---- the plan
 

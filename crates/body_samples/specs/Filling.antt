@@ -9,7 +9,7 @@ use lib.Dec.{leb}
 use Rattle.wal_types.specs.declared.Refusal.the-variants.{UnknownType, EmptyBody, ListFull, WrongKind}
 use Rattle.wal_types.specs.Refusals.{numberOf, placeOf}
 use Rattle.body_format.specs.Fields.{Field, got, fault}
-use Rattle.body_format.specs.Entries.{Known, known, unknown, bodyTypeOf, series, samples, tombstones, exemplars, metadata, Entry, entries}
+use Rattle.body_format.specs.Entries.{Known, known, unknown, bodyTypeOf, series, samples, tombstones, exemplars, metadata, histograms, Entry, entries}
 use Rattle.body_format.specs.Reading.{view}
 use Rattle.body_samples.specs.declared.Sample.{Sample}
 use Rattle.body_samples.specs.declared.FillAnswer.{FillAnswer}
@@ -26,6 +26,7 @@ samplesKnown (known series) s = fault WrongKind
 samplesKnown (known tombstones) s = fault WrongKind
 samplesKnown (known exemplars) s = fault WrongKind
 samplesKnown (known metadata) s = fault WrongKind
+samplesKnown (known (histograms k)) s = fault WrongKind
 samplesKnown unknown s = fault UnknownType
 
 unfoldable pub samplesIn : List ℕ → Field (List Entry)

@@ -16,9 +16,9 @@ use Rattle.wal_types.specs.Terms.{seriesId, timestamp}
 use Rattle.body_format.specs.declared.EntryAnswer.{EntryAnswer}
 use Rattle.body_format.specs.declared.EntryAnswer.the-variants.{Found, End, Refused}
 use Rattle.body_format.specs.Fields.{Field, got, fault}
-use Rattle.body_format.specs.Entries.{Known, known, unknown, bodyTypeOf, series, samples, tombstones, exemplars, metadata, Entry, seriesEntry, sampleEntry, tombstoneEntry, exemplarEntry, metadataEntry, entries}
-use Rattle.body_format.specs.Reading.{view, readEntry, readString}
-use Rattle.body_format.specs.Calls.{Walks}
+use Rattle.body_format.specs.Entries.{Known, known, unknown, bodyTypeOf, series, samples, tombstones, exemplars, metadata, histograms, Entry, seriesEntry, sampleEntry, tombstoneEntry, exemplarEntry, metadataEntry, histogramEntry, entries}
+use Rattle.body_format.specs.Reading.{view, readEntry}
+use Rattle.body_format.specs.Calls.{bodyCalls, Walks}
 use Rattle.body_format.specs.Calls.Walks.{next, done}
 use Rattle.body_format.specs.Laws.Walks.{entries-walk}
 use Rattle.body_samples.specs.declared.Sample.{Sample}
@@ -66,12 +66,13 @@ row-found s p (sampleEntry id t v) first q h = ap (λ (a : EntryAnswer). rowOf a
 row-found s p (tombstoneEntry id lo hi) first q h = ap (λ (a : EntryAnswer). rowOf a p) h
 row-found s p (exemplarEntry id t v ts) first q h = ap (λ (a : EntryAnswer). rowOf a p) h
 row-found s p (metadataEntry id m ts) first q h = ap (λ (a : EntryAnswer). rowOf a p) h
+row-found s p (histogramEntry k g) first q h = ap (λ (a : EntryAnswer). rowOf a p) h
 
 -- a walk's entries are stored one after the other
-walk-fills : (s : List ℕ) {p : ℕ} {es : List Entry} → Walks readEntry readString s p es → (i : ℕ) (l : List Sample)
+walk-fills : (s : List ℕ) {p : ℕ} {es : List Entry} → Walks bodyCalls s p es → (i : ℕ) (l : List Sample)
     → fillWith (length es) p s i l ≡ sets l i (map sampleOf es)
 unfolding fillWith
-walk-fills s {p} (next {q = q} {e = e} {es = es} first h _ w) i l =
+walk-fills s {p} (next {q = q} {e = e} {es = es} first h _ _ w) i l =
     ap (λ (r : Row). fillWith (length es) (r .next) s (suc i) (set l i (r .sample))) (row-found s p e first q h) ∙ walk-fills s w (suc i) (set l i (sampleOf e))
 walk-fills s (done h) i l = refl
 
@@ -88,7 +89,7 @@ module _ (s : List ℕ) (l : List Sample) where
   abbrev Filling : Field (List Entry) → Type 0
   Filling x = fillWith (fillCount x (length l)) 1 s 0 l ≡ listAfter x l
 
-  walked : (es : List Entry) (p : ℕ) → Walks readEntry readString s 1 es → Filling (got es p)
+  walked : (es : List Entry) (p : ℕ) → Walks bodyCalls s 1 es → Filling (got es p)
   unfolding fillWith
   walked es p w = go (leb (length es) (length l)) refl
     where
@@ -97,7 +98,7 @@ module _ (s : List ℕ) (l : List Sample) where
       go true e = walk-fills s w 0 l ∙ front es l (leb-true (length es) (length l) e)
       go false e = refl
 
-  of-walk : (x : Field (List Entry)) → ((es : List Entry) (p : ℕ) → x ≡ got es p → Walks readEntry readString s 1 es) → Filling x
+  of-walk : (x : Field (List Entry)) → ((es : List Entry) (p : ℕ) → x ≡ got es p → Walks bodyCalls s 1 es) → Filling x
   unfolding fillWith
   of-walk (got es p) h = walked es p (h es p refl)
   of-walk (fault why) h = refl
@@ -113,4 +114,5 @@ filled (b ∷ s) l = go (bodyTypeOf b) refl
     go (known tombstones) h = of-walk (b ∷ s) l (fault WrongKind) (λ es p e. absurd (no-fault e))
     go (known exemplars) h = of-walk (b ∷ s) l (fault WrongKind) (λ es p e. absurd (no-fault e))
     go (known metadata) h = of-walk (b ∷ s) l (fault WrongKind) (λ es p e. absurd (no-fault e))
+    go (known (histograms k)) h = of-walk (b ∷ s) l (fault WrongKind) (λ es p e. absurd (no-fault e))
     go unknown h = of-walk (b ∷ s) l (fault UnknownType) (λ es p e. absurd (no-fault e))

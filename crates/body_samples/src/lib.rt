@@ -3,6 +3,8 @@
 use body_format::CheckAnswer;
 use body_format::EXEMPLARS;
 use body_format::EntryAnswer;
+use body_format::FLOAT_HISTOGRAMS;
+use body_format::HISTOGRAMS;
 use body_format::METADATA;
 use body_format::SAMPLES;
 use body_format::SERIES;
@@ -92,6 +94,8 @@ fn count_samples(body: &[u8]) -> CheckAnswer
         TOMBSTONES => CheckAnswer::Refused(Refusal::WrongKind),
         EXEMPLARS => CheckAnswer::Refused(Refusal::WrongKind),
         METADATA => CheckAnswer::Refused(Refusal::WrongKind),
+        HISTOGRAMS => CheckAnswer::Refused(Refusal::WrongKind),
+        FLOAT_HISTOGRAMS => CheckAnswer::Refused(Refusal::WrongKind),
         _ => CheckAnswer::Refused(Refusal::UnknownType),
     }
 }

@@ -2,14 +2,18 @@
 // passes as a pointer and a length, a fixed array as a pointer, a body's state as its tag and the
 // bytes used. No crate calls these; tools/archive joins them with those of depot_wal_segments.
 ghost use mathlib.Core.Path.{_≡_};
-ghost use Rattle.body_format.specs.Reading.{checkBody, readEntry, readString};
+ghost use Rattle.body_format.specs.Reading.{checkBody, readEntry, readString, readHistogram, readSpan, readBucket};
 ghost use Rattle.body_format.specs.Calls.{starter, builder, addSeries, addSample, addTombstone, addExemplar, addMetadata};
 ghost use Rattle.body_builder.specs.Answers.{addedOf};
 ghost use Rattle.depot_wal_results.specs.Bodies.{addedCode, addedOut, checkCode, checkOut, entryCode, entryOut, stringCode, stringOut};
+ghost use Rattle.depot_wal_results.specs.Histograms.{histogramCode, histogramOut, spanCode, spanOut, bucketCode, bucketOut};
 use body_builder::Body;
 use depot_wal_results::build_result;
 use depot_wal_results::check_result;
 use depot_wal_results::entry_result;
+use depot_wal_results::histograms::bucket_result;
+use depot_wal_results::histograms::histogram_result;
+use depot_wal_results::histograms::span_result;
 use depot_wal_results::string_result;
 use wal_types::Offset;
 use wal_types::SeriesId;
@@ -202,4 +206,35 @@ pub extern "C" fn depot_wal_string_at(bytes: &[u8], place: usize, out: &mut [u64
 {
     let answer = body_reader::string_at(bytes, Offset(place));
     string_result(answer, out)
+}
+
+// Reads the histogram at a place: its numbers, and its lists by their counts and first places.
+#[no_mangle]
+pub extern "C" fn depot_wal_histogram_at(bytes: &[u8], place: usize, out: &mut [u64; 18]) -> u32
+    ensures { λ r. ⌜ (r ≡ histogramCode (readHistogram (now (bytes .entry)) place)) ×
+        (now (out .exit) ≡ histogramOut (readHistogram (now (bytes .entry)) place)) ⌝ }
+{
+    let answer = body_reader::histogram_at(bytes, Offset(place));
+    histogram_result(answer, out)
+}
+
+// Reads the span of a histogram at a place: its offset, its length, and the place after it.
+#[no_mangle]
+pub extern "C" fn depot_wal_span_at(bytes: &[u8], place: usize, out: &mut [u64; 3]) -> u32
+    ensures { λ r. ⌜ (r ≡ spanCode (readSpan (now (bytes .entry)) place)) ×
+        (now (out .exit) ≡ spanOut (readSpan (now (bytes .entry)) place)) ⌝ }
+{
+    let answer = body_reader::span_at(bytes, Offset(place));
+    span_result(answer, out)
+}
+
+// Reads the bucket of a histogram at a place: its number or its float's bits, and the place after
+// it.
+#[no_mangle]
+pub extern "C" fn depot_wal_bucket_at(bytes: &[u8], place: usize, out: &mut [u64; 2]) -> u32
+    ensures { λ r. ⌜ (r ≡ bucketCode (readBucket (now (bytes .entry)) place)) ×
+        (now (out .exit) ≡ bucketOut (readBucket (now (bytes .entry)) place)) ⌝ }
+{
+    let answer = body_reader::bucket_at(bytes, Offset(place));
+    bucket_result(answer, out)
 }

@@ -33,7 +33,7 @@ abbrev pub checkOut : CheckAnswer → List ℕ
 checkOut (Entries n) = n ∷ []
 checkOut (CheckRefused why) = placeOf why .0 ∷ []
 
--- an entry: tag, id, time or min, max, value bits or metric type, string count, where the strings
+-- an entry: tag, id, time or min, max, value bits, metric type or sum, string count, where the strings
 -- begin, place after; times in two's complement. The plain end: zeros. A refusal: its place, then
 -- zeros.
 abbrev pub entryCode : EntryAnswer → ℕ

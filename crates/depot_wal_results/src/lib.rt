@@ -1,5 +1,7 @@
 // The answers of the calls as numbers, for C: each function stores an answer's values in `out`, and
 // returns what the call returns.
+pub mod histograms;
+
 use body_builder::Added;
 use body_format::CheckAnswer;
 use body_format::EntryAnswer;

@@ -14,15 +14,19 @@ use Rattle.wal_types.specs.Deltas.{minus, toBits}
 use Rattle.wal_types.specs.DeltaLaws.{to-lt}
 use Rattle.big_endian.specs.Fixed.{be8, readBe8}
 use Rattle.big_endian.specs.FixedLaws.{length-be8, read-be8, read-be8-fits}
+use Rattle.body_format.specs.declared.BucketKind.{BucketKind}
 use Rattle.body_format.specs.Fields.{got}
-use Rattle.body_format.specs.Entries.{BodyType, typeByte, hasRows, Entry, seriesEntry, sampleEntry, tombstoneEntry, exemplarEntry, metadataEntry, bodyTypeFor, Placed, entryAt, entriesFrom, firstAt, entries}
+use Rattle.body_format.specs.Entries.{BodyType, typeByte, hasRows, Entry, seriesEntry, sampleEntry, tombstoneEntry, exemplarEntry, metadataEntry, histogramEntry, bodyTypeFor, Placed, entryAt, entriesFrom, firstAt, entries}
+use Rattle.body_format.specs.Heads.{headBytes}
+use Rattle.body_format.specs.Histograms.{Span, Histogram, numbersBytes, listsBytes, histogramBytes}
 use Rattle.body_format.specs.Building.{stringListBytes, rowBytes, entryBytes}
 use Rattle.body_format.specs.Laws.Fields.{place-same, Stands, stands-left, stands-right, stands-end}
 use Rattle.body_format.specs.Laws.Bounds.{of-got}
 use Rattle.body_format.specs.Laws.Kept.{be8-kept}
 use Rattle.body_format.specs.Laws.Lists.{entries-end, entries-enough, entries-snoc, entries-whole, first-rows, first-one}
-use Rattle.body_format.specs.Laws.Strings.{row-first, row-later, length-row-later, length-series, length-sample, length-tombstone, length-exemplar, length-metadata}
-use Rattle.body_format.specs.Laws.Heads.{Firsts}
+use Rattle.body_format.specs.Laws.Strings.{length-row-later, length-series, length-sample, length-tombstone, length-exemplar, length-metadata}
+use Rattle.body_format.specs.Laws.Heads.{head-first, head-later, Firsts}
+use Rattle.body_format.specs.Laws.Histograms.{histogram-some}
 use Rattle.body_format.specs.Laws.Entries.{Fits, read-entry}
 
 -- s is a body of type k with the entries es. In a body of rows, any bytes after the tag begin with
@@ -81,13 +85,19 @@ module _ (k : BodyType) (s : List ℕ) (es : List Entry) (x : List ℕ) (d : Pla
             (omega arith, rw (be8-kept s x 1 (omega arith)) (old-firsts .1), rw (be8-kept s x 9 (omega arith)) (old-firsts .2));
       }
 
--- an entry has bytes
+-- a histogram has bytes
+histogram-bytes : (b : List ℕ) (u : ℕ) (k : BucketKind) (e : Histogram (List Span) (List ℕ)) → 0 < length (entryBytes b u (histogramEntry k e))
+unfolding entryBytes
+histogram-bytes b u k e = histogram-some b u k e
+
+-- and so has every entry
 some-bytes : (b : List ℕ) (u : ℕ) (e : Entry) → (hasRows (bodyTypeFor e) ≡ true → u ≡ 1 → ⊥) → 0 < length (entryBytes b u e)
 some-bytes b u (seriesEntry id ts) h = omega (arith, length-series b u id ts)
 some-bytes b u (sampleEntry id time v) h = omega (arith, length-sample b u id time v, length-row-later b u id (toBits time) v (h refl))
 some-bytes b u (tombstoneEntry id min max) h = omega (arith, length-tombstone b u id min max)
 some-bytes b u (exemplarEntry id time v ts) h = omega (arith, length-exemplar b u id time v ts, length-row-later b u id (toBits time) v (h refl))
 some-bytes b u (metadataEntry id metric ts) h = omega (arith, length-metadata b u id metric ts)
+some-bytes b u (histogramEntry k e) h = histogram-bytes b u k e
 
 -- the bytes of an entry after a body, where it is not a first row
 later : (b : List ℕ) (u : ℕ) (s : List ℕ) (es : List Entry) (e : Entry) → Body (bodyTypeFor e) s es
@@ -154,15 +164,19 @@ module _ (s : List ℕ) (one : length s ≡ 1) (id time : ℕ) (hi : id < 2 ^ 64
     time-fits = rw first-time ht;
   }
 
-  -- the first row is the first id, the first timestamp, and a later row
-  row-headed : (b : List ℕ) (v : ℕ) → rowBytes b 1 id time v ≡ (be8 id ++ be8 time) ++ rowBytes headed 17 id time v
+  -- the head of the first row is the first id, the first timestamp, and the head of a later row
+  head-headed : (b : List ℕ) → headBytes b 1 id time ≡ (be8 id ++ be8 time) ++ headBytes headed 17 id time
   unfolding minus
-  row-headed b v =
+  head-headed b =
       let zi : minus id (readBe8 (drop 1 headed)) ≡ 0 = rw first-id (omega arith) in
       let zt : minus time (readBe8 (drop 9 headed)) ≡ 0 = rw first-time (omega arith) in
-      row-first b 1 id time v refl
-      ∙ rw (row-later headed 17 id time v (λ z. omega arith), zi, zt)
+      head-first b 1 id time refl
+      ∙ rw (head-later headed 17 id time (λ z. omega arith), zi, zt)
       (sym (append-assoc (be8 id) (be8 time) _))
+
+  -- and so whatever follows the head
+  pub after-head : (b x : List ℕ) → headBytes b 1 id time ++ x ≡ (be8 id ++ be8 time) ++ (headBytes headed 17 id time ++ x)
+  after-head b x = ap (λ (h : List ℕ). h ++ x) (head-headed b) ∙ append-assoc (be8 id ++ be8 time) (headBytes headed 17 id time) x
 
   -- so an entry that is these and a later one adds one entry
   headed-added : (b : List ℕ) (es : List Entry) (e : Entry) → hasRows (bodyTypeFor e) ≡ true → Body (bodyTypeFor e) s es → Fits e
@@ -173,21 +187,26 @@ module _ (s : List ℕ) (one : length s ≡ 1) (id time : ℕ) (hi : id < 2 ^ 64
       (later headed 17 headed es e (headed-body (bodyTypeFor e) es q y) (λ r. (omega (arith, length-headed), headed-firsts)) fits
       (omega (arith, ap length split, length-append (be8 id ++ be8 time) (entryBytes headed 17 e))))
 
--- a first row, of types 2 and 4
+-- a first row, of the types with rows
 first-added : (b s : List ℕ) (es : List Entry) (e : Entry) → hasRows (bodyTypeFor e) ≡ true → length s ≡ 1 → Body (bodyTypeFor e) s es → Fits e
     → length (entryBytes b 1 e) < 2 ^ 64 → Body (bodyTypeFor e) (s ++ entryBytes b 1 e) (es ++ (e ∷ []))
-unfolding entryBytes
+unfolding entryBytes rowBytes histogramBytes
 first-added b s es (seriesEntry id ts) q one y fits h = let z : _≡_ {A = ℕ} 0 1 = cc in absurd (omega arith)
 first-added b s es (sampleEntry id time v) q one y fits h =
     let ht : toBits time < 2 ^ 64 = to-lt time (fits .1) in
-    headed-added s one id (toBits time) (fits .0) ht b es (sampleEntry id time v) q y fits (row-headed s one id (toBits time) (fits .0) ht b v) h
+    headed-added s one id (toBits time) (fits .0) ht b es (sampleEntry id time v) q y fits (after-head s one id (toBits time) (fits .0) ht b (be8 v)) h
 first-added b s es (tombstoneEntry id min max) q one y fits h = let z : _≡_ {A = ℕ} 0 1 = cc in absurd (omega arith)
 first-added b s es (exemplarEntry id time v ts) q one y fits h =
     let ht : toBits time < 2 ^ 64 = to-lt time (fits .1) in
     headed-added s one id (toBits time) (fits .0) ht b es (exemplarEntry id time v ts) q y fits
-    (ap (λ (r : List ℕ). r ++ stringListBytes ts) (row-headed s one id (toBits time) (fits .0) ht b v)
+    (ap (λ (r : List ℕ). r ++ stringListBytes ts) (after-head s one id (toBits time) (fits .0) ht b (be8 v))
     ∙ append-assoc (be8 id ++ be8 (toBits time)) _ (stringListBytes ts)) h
 first-added b s es (metadataEntry id metric ts) q one y fits h = let z : _≡_ {A = ℕ} 0 1 = cc in absurd (omega arith)
+first-added b s es (histogramEntry k e) q one y fits h =
+    let id : ℕ = e .head .id in
+    let ht : toBits (e .head .time) < 2 ^ 64 = to-lt (e .head .time) (fits .1) in
+    headed-added s one id (toBits (e .head .time)) (fits .0) ht b es (histogramEntry k e) q y fits
+    (after-head s one id (toBits (e .head .time)) (fits .0) ht b (numbersBytes k (e .numbers) ++ listsBytes k (e .lists))) h
 
 -- ---- any entry
 

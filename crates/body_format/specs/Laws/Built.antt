@@ -10,9 +10,9 @@ use lib.ListN.{length, take}
 use lib.Seq.{sets, length-sets}
 use Rattle.body_format.specs.declared.CheckAnswer.the-variants.{Entries}
 use Rattle.body_format.specs.Entries.{BodyType, typeByte, Known, known, unknown, bodyTypeOf, hasRows, Entry, bodyTypeFor, entries}
-use Rattle.body_format.specs.Reading.{checkBody, readEntry, readString}
+use Rattle.body_format.specs.Reading.{checkBody}
 use Rattle.body_format.specs.Building.{entryBytes, Outcome, used, refused, startKnown, start, startBytes, add, addBytes}
-use Rattle.body_format.specs.Calls.{Addition, addSeries, addSample, addTombstone, addExemplar, addMetadata, entryFor, listIsBad, builder, usedThen, finalBuffer, finalUsed, withEntry, added, Walks}
+use Rattle.body_format.specs.Calls.{Addition, addSeries, addSample, addTombstone, addExemplar, addMetadata, addHistogram, entryFor, listIsBad, builder, usedThen, finalBuffer, finalUsed, withEntry, added, bodyCalls, Walks}
 use Rattle.body_format.specs.Claims.{InRange, AllInRange}
 use Rattle.body_format.specs.Laws.Types.{type-known, type-byte}
 use Rattle.body_format.specs.Laws.Lists.{entries-end, first-one}
@@ -33,7 +33,7 @@ body-checks k (c ∷ s) es y =
     rw (ap bodyTypeOf type ∙ type-known k, y .reads)
 
 -- and a walk gives them
-pub body-walks : (k : BodyType) (s : List ℕ) (es : List Entry) → Body k s es → Walks readEntry readString s 1 es
+pub body-walks : (k : BodyType) (s : List ℕ) (es : List Entry) → Body k s es → Walks bodyCalls s 1 es
 body-walks k [] es y = absurd (omega (arith, ap length (y .begins .1)))
 body-walks k (c ∷ s) es y =
     let type : c ≡ typeByte k = let e = y .begins .1 in cc in
@@ -71,6 +71,7 @@ fits (addSample id time v) h e = h
 fits (addTombstone id min max) h e = h
 fits (addExemplar id time v bytes lengths) h e = (h .0, h .1, h .2, even-list bytes lengths e)
 fits (addMetadata id metric bytes lengths) h e = (h .0, even-list bytes lengths e)
+fits (addHistogram k head n l) h e = h
 
 module _ (t : ℕ) (k : BodyType) (type : t ≡ typeByte k) where
   -- an addition hands back the state with one entry more (FORMAT 10.3), also where the body was not

@@ -14,10 +14,12 @@ use Rattle.varint.specs.Varint.{varint}
 use Rattle.big_endian.specs.Fixed.{be8}
 use Rattle.body_format.specs.Fields.{got}
 use Rattle.body_format.specs.Heads.{headBytes}
-use Rattle.body_format.specs.Entries.{hasRows, Entry, seriesEntry, sampleEntry, tombstoneEntry, exemplarEntry, metadataEntry, bodyTypeFor, rowAt, seriesAt, sampleAt, tombstoneAt, exemplarAt, metadataAt, entryAt}
+use Rattle.body_format.specs.Histograms.{histogramBytes}
+use Rattle.body_format.specs.Entries.{hasRows, Entry, seriesEntry, sampleEntry, tombstoneEntry, exemplarEntry, metadataEntry, histogramEntry, bodyTypeFor, rowAt, seriesAt, sampleAt, tombstoneAt, exemplarAt, metadataAt, histogramEntryAt, entryAt}
 use Rattle.body_format.specs.Building.{stringListBytes, rowBytes, entryBytes}
 use Rattle.body_format.specs.Laws.Fields.{place-same, Stands, stands-left, stands-right, read-byte, read-fixed, read-uvarint-at, read-varint-at, read-list}
 use Rattle.body_format.specs.Laws.Heads.{Firsts, read-head}
+use Rattle.body_format.specs.Laws.Histograms.{HistogramFits, read-histogram}
 
 -- an entry's numbers have 64 bits, and its strings come in pairs
 abbrev pub Fits : Entry → Type 0
@@ -26,6 +28,7 @@ Fits (sampleEntry id time v) = (id < 2 ^ 64) × (mag time < 2 ^ 63) × (v < 2 ^ 
 Fits (tombstoneEntry id min max) = (id < 2 ^ 64) × (mag min < 2 ^ 63) × (mag max < 2 ^ 63)
 Fits (exemplarEntry id time v ts) = (id < 2 ^ 64) × (mag time < 2 ^ 63) × (v < 2 ^ 64) × (length ts % 2 ≡ 0)
 Fits (metadataEntry id metric ts) = (id < 2 ^ 64) × (length ts % 2 ≡ 0)
+Fits (histogramEntry k h) = HistogramFits k h
 
 module _ (b : List ℕ) (used : ℕ) (s : List ℕ) (p : ℕ) where
   -- a row: its head, and its value
@@ -45,7 +48,7 @@ module _ (b : List ℕ) (used : ℕ) (s : List ℕ) (p : ℕ) where
   pub read-entry : (e : Entry) → Fits e → length (entryBytes b used e) < 2 ^ 64 → (hasRows (bodyTypeFor e) ≡ true → Firsts b used s)
       → Stands s p (entryBytes b used e)
       → (first : ℕ) × (entryAt (bodyTypeFor e) s p ≡ got (record { entry = e; first = first }) (p + length (entryBytes b used e)))
-  unfolding entryBytes seriesAt sampleAt tombstoneAt exemplarAt metadataAt
+  unfolding entryBytes seriesAt sampleAt tombstoneAt exemplarAt metadataAt histogramEntryAt
   read-entry (seriesEntry id ts) (hi, even) h rows st =
       let l : length (be8 id ++ stringListBytes ts) ≡ length (be8 id) + length (stringListBytes ts) = length-append (be8 id) (stringListBytes ts) in (
         p + length (be8 id) + length (uvarint (length ts / 2)),
@@ -90,3 +93,5 @@ module _ (b : List ℕ) (used : ℕ) (s : List ℕ) (p : ℕ) where
         )
             (place-same (omega arith)),
       )
+  read-entry (histogramEntry k e) fits h rows st =
+      (p + length (histogramBytes b used k e), rw (read-histogram b used s p k e fits h (rows refl) st .1))

@@ -34,9 +34,9 @@ unfolding deltaBytes varint zigzag fromBits uvarint groups
 length-delta-0 = refl
 
 -- a signed varint is a uvarint whose zigzag is taken back
-by-zigzag : (s : List ℕ) (p : ℕ) → varintAt s p ≡ andThen (uvarintAt s p) (λ n q. got (unzigzag n) q)
+pub varint-uvarint : (s : List ℕ) (p : ℕ) → varintAt s p ≡ andThen (uvarintAt s p) (λ n q. got (unzigzag n) q)
 unfolding varintAt uvarintAt readVarint signed
-by-zigzag s p = go (readUvarint (drop p s))
+varint-uvarint s p = go (readUvarint (drop p s))
   where
     go : (r : UvarintRead) → varintOf p (signed r) ≡ andThen (uvarintOf p r) (λ n q. got (unzigzag n) q)
     go (u.Value n len) = refl
@@ -47,7 +47,7 @@ module _ (s : List ℕ) (p : ℕ) where
   -- and so is a delta
   pub delta-uvarint : deltaAt s p ≡ andThen (uvarintAt s p) (λ n q. got (toBits (unzigzag n)) q)
   unfolding deltaAt
-  delta-uvarint = ap (λ (f : Field ℤ). andThen f (λ x q. got (toBits x) q)) (by-zigzag s p) ∙ go (uvarintAt s p)
+  delta-uvarint = ap (λ (f : Field ℤ). andThen f (λ x q. got (toBits x) q)) (varint-uvarint s p) ∙ go (uvarintAt s p)
     where
       go : (f : Field ℕ) → andThen (andThen f (λ n q. got (unzigzag n) q)) (λ x q. got (toBits x) q) ≡ andThen f (λ n q. got (toBits (unzigzag n)) q)
       go (got n q) = refl

@@ -35,6 +35,13 @@ returns-2 c =
 
 returns-3 : tie.Need-returns-3
 returns-3 c =
+    let found = c .before .before .before .before .before in
+    let type = found .before .before in
+    c .histogram-as-entry .ensures
+    ∙ sym (known-entry _ _ (type .body-type .ensures) (found .layout .given .1) (c .before .before .layout4 .given .1))
+
+returns-4 : tie.Need-returns-4
+returns-4 c =
     let type = c .before .before .before in
     sym (entry-type _ _ ∙ ap (byType EntryRefused _) (sym (type .body-type .ensures) ∙ c .before .why .given .1))
 
@@ -49,6 +56,9 @@ entry-at-spec =
     (λ c. search needs)
     (λ c κs. search needs)
     (λ c. search needs)
+    (λ c κs. search needs)
+    (λ c. search needs)
     returns
     returns-2
-    returns-3)
+    returns-3
+    returns-4)

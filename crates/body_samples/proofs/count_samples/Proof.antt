@@ -3,7 +3,8 @@
 use borrow.Author.Needs.{needs}
 use native.Mathlib.Omega.{arith}
 use mathlib.Core.Path.{sym, ap, _∙_}
-use Rattle.body_format.specs.Entries.{series, tombstones, exemplars, metadata}
+use Rattle.body_format.specs.declared.BucketKind.the-variants.{Whole, Float}
+use Rattle.body_format.specs.Entries.{series, tombstones, exemplars, metadata, histograms}
 use Rattle.body_format.specs.Reading.{checkFields}
 use Rattle.body_samples.proofs.Counting.{empty, typed, checked, untyped}
 use Rattle.body_samples.proofs.count_samples.Statement.{statement}
@@ -34,9 +35,16 @@ returns-6 : tie.Need-returns-6
 returns-6 c = sym (ap checkFields (typed metadata (c .before .before .before .before .args .body .now) (omega arith) (c .match .keys5)))
 
 returns-7 : tie.Need-returns-7
-returns-7 c =
+returns-7 c = sym (ap checkFields (typed (histograms Whole) (c .before .before .before .before .args .body .now) (omega arith) (c .match .keys6)))
+
+returns-8 : tie.Need-returns-8
+returns-8 c = sym (ap checkFields (typed (histograms Float) (c .before .before .before .before .args .body .now) (omega arith) (c .match .keys7)))
+
+returns-9 : tie.Need-returns-9
+returns-9 c =
     let r = c .match .rest in
-    sym (ap checkFields (untyped (c .before .before .before .before .args .body .now) (omega arith) (r .0 .0 .0 .1) (r .0 .0 .0 .0 .1) (r .0 .0 .1) (r .0 .1) (r .1)))
+    sym (ap checkFields (untyped (c .before .before .before .before .args .body .now) (omega arith)
+    (r .0 .0 .0 .0 .0 .1) (r .0 .0 .0 .0 .0 .0 .1) (r .0 .0 .0 .0 .1) (r .0 .0 .0 .1) (r .0 .0 .1) (r .0 .1) (r .1)))
 
 pub count-samples-spec : {M : Type 1} → statement M
 count-samples-spec =
@@ -50,4 +58,6 @@ count-samples-spec =
     returns-4
     returns-5
     returns-6
-    returns-7)
+    returns-7
+    returns-8
+    returns-9)

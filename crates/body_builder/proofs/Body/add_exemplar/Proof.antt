@@ -10,9 +10,9 @@ use Rattle.wal_types.specs.Deltas.{toBits}
 use Rattle.body_format.specs.Entries.{exemplarEntry, Entry}
 use Rattle.body_format.specs.Building.{entryBytes, rowBytes, stringListBytes, cutStrings, badList}
 use Rattle.body_builder.specs.Sizes.{gateFor, decided, deltasIn, zigzagsOf}
-use Rattle.body_builder.proofs.Putting.{room-then, put-then}
-use Rattle.body_builder.proofs.Sizing.{Sized, good-sum, row-sized}
-use Rattle.body_builder.proofs.Adding.{Opened, opened, shut, finished, exemplar-sized}
+use Rattle.body_builder.specs.Laws.Putting.{room-then, put-then}
+use Rattle.body_builder.specs.Laws.Additions.{Opened, opened, shut, finished, Sized}
+use Rattle.body_builder.proofs.Sizing.{exemplar-sized, good-sum, row-sized}
 use Rattle.body_builder.proofs.Body.add_exemplar.Statement.{statement}
 use Rattle.body_builder.proofs.Body.add_exemplar.Tie as tie
 

@@ -7,8 +7,8 @@ use Rattle.wal_types.specs.Deltas.{toBits}
 use Rattle.body_format.specs.Entries.{sampleEntry, Entry}
 use Rattle.body_format.specs.Building.{entryBytes}
 use Rattle.body_builder.specs.Sizes.{deltasIn, zigzagsOf}
-use Rattle.body_builder.proofs.Sizing.{Sized, exact, row-sized}
-use Rattle.body_builder.proofs.Adding.{Opened, opened, shut, finished}
+use Rattle.body_builder.specs.Laws.Additions.{Opened, opened, shut, finished, Sized, exact}
+use Rattle.body_builder.proofs.Sizing.{row-sized}
 use Rattle.body_builder.proofs.Body.add_sample.Statement.{statement}
 use Rattle.body_builder.proofs.Body.add_sample.Tie as tie
 

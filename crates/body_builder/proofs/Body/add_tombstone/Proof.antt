@@ -7,8 +7,7 @@ use lib.ListN.{length}
 use Rattle.body_format.specs.Entries.{tombstoneEntry, Entry}
 use Rattle.body_format.specs.Building.{entryBytes}
 use Rattle.body_format.specs.Laws.Strings.{length-tombstone}
-use Rattle.body_builder.proofs.Sizing.{Sized, exact}
-use Rattle.body_builder.proofs.Adding.{Opened, opened, shut, finished}
+use Rattle.body_builder.specs.Laws.Additions.{Opened, opened, shut, finished, Sized, exact}
 use Rattle.body_builder.proofs.Body.add_tombstone.Statement.{statement}
 use Rattle.body_builder.proofs.Body.add_tombstone.Tie as tie
 

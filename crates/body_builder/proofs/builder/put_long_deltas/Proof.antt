@@ -3,7 +3,7 @@ use borrow.Author.Needs.{needs}
 use Rattle.uvarint.specs.Uvarint.{uvarint}
 use Rattle.big_endian.specs.Fixed.{be8}
 use Rattle.body_builder.specs.Sizes.{rowTail}
-use Rattle.body_builder.proofs.Putting.{put-three}
+use Rattle.body_builder.specs.Laws.Putting.{put-three}
 use Rattle.body_builder.proofs.builder.put_long_deltas.Statement.{statement}
 use Rattle.body_builder.proofs.builder.put_long_deltas.Tie as tie
 

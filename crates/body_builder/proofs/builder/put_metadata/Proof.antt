@@ -8,7 +8,7 @@ use lib.ListN.{length}
 use lib.Seq.{length-sets}
 use Rattle.body_format.specs.Entries.{metadataEntry}
 use Rattle.body_format.specs.Building.{entryBytes, stringListBytes, cutStrings}
-use Rattle.body_builder.proofs.Putting.{Put}
+use Rattle.body_builder.specs.Laws.Putting.{Put}
 use Rattle.body_builder.proofs.Laying.{byte-room, byte-then, byte-laid}
 use Rattle.body_builder.proofs.builder.put_metadata.Statement.{statement}
 use Rattle.body_builder.proofs.builder.put_metadata.Tie as tie

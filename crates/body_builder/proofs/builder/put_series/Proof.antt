@@ -4,7 +4,7 @@ use Prim.Native.Nat.{ℕ}
 use mathlib.Core.List.{List}
 use Rattle.big_endian.specs.Fixed.{be8}
 use Rattle.body_format.specs.Building.{entryBytes, stringListBytes, cutStrings}
-use Rattle.body_builder.proofs.Putting.{Put, put-first, room-then, put-then}
+use Rattle.body_builder.specs.Laws.Putting.{Put, put-first, room-then, put-then}
 use Rattle.body_builder.proofs.builder.put_series.Statement.{statement}
 use Rattle.body_builder.proofs.builder.put_series.Tie as tie
 

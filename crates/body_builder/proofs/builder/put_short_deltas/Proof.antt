@@ -6,7 +6,7 @@ use mathlib.Core.Path.{ap, _∙_}
 use lib.ListN.{length, length-set}
 use lib.Seq.{length-sets}
 use Rattle.body_builder.specs.Sizes.{rowTail}
-use Rattle.body_builder.proofs.Putting.{Put}
+use Rattle.body_builder.specs.Laws.Putting.{Put}
 use Rattle.body_builder.proofs.Sizing.{short-room, short-put}
 use Rattle.body_builder.proofs.builder.put_short_deltas.Statement.{statement}
 use Rattle.body_builder.proofs.builder.put_short_deltas.Tie as tie

@@ -5,7 +5,7 @@ use mir.Facts.{toZ-ofZ}
 use Rattle.varint.specs.Varint.{varint}
 use Rattle.big_endian.specs.Fixed.{be8}
 use Rattle.body_format.specs.Building.{entryBytes}
-use Rattle.body_builder.proofs.Putting.{put-three}
+use Rattle.body_builder.specs.Laws.Putting.{put-three}
 use Rattle.body_builder.proofs.builder.put_tombstone.Statement.{statement}
 use Rattle.body_builder.proofs.builder.put_tombstone.Tie as tie
 

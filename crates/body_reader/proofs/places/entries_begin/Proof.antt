@@ -13,6 +13,18 @@ returns c =
 returns-2 : tie.Need-returns-2
 returns-2 c = rw (c .enum-told2 .given .1, plain-plain (c .enum-told2 .given .0 .0))
 
+returns-3 : tie.Need-returns-3
+returns-3 c = rw (c .before .enum-told3 .given .1) (c .rows-begin2 .ensures)
+
 pub entries-begin-spec : {M : Type 1} → statement M
 entries-begin-spec =
-    tie.close (tie.spec (λ c. search needs) (λ c κs. search needs) (λ c. search needs) returns returns-2)
+    tie.close
+    (tie.spec
+    (λ c. search needs)
+    (λ c κs. search needs)
+    (λ c. search needs)
+    (λ c. search needs)
+    (λ c κs. search needs)
+    returns
+    returns-2
+    returns-3)

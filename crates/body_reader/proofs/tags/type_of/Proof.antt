@@ -20,7 +20,7 @@ returns-3 : tie.Need-returns-3
 returns-3 c =
     let b = c .before .before .before .args .tag in
     let low = c .before .if2 .left in
-    sym (ap typeFound (type-unknown b (c .if3 .left) (λ e. omega arith) (λ e. omega arith) (λ e. omega arith) (λ e. omega arith)))
+    sym (ap typeFound (type-unknown b (c .if3 .left) (λ e. omega arith) (λ e. omega arith) (λ e. omega arith) (λ e. omega arith) (λ e. omega arith) (λ e. omega arith)))
 
 pub type-of-spec : {M : Type 1} → statement M
 type-of-spec = tie.close (tie.spec returns returns-2 returns-3 (λ c κs. search needs) (λ c. search needs))
