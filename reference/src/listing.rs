@@ -2,7 +2,7 @@
 
 use crate::feed::{Feed, Read};
 use crate::refusal::{Refusal, TORN};
-use crate::segment::{self, Reading, PAGE, RECORD_MAX, SEGMENT_MAX};
+use crate::segment::{self, Good, Reading, PAGE, RECORD_MAX, SEGMENT_MAX};
 use std::io::{self, ErrorKind};
 
 /// The most bytes that are listed.
@@ -15,11 +15,11 @@ pub fn list(mut input: impl io::Read, mut output: impl io::Write) -> io::Result<
     let mut buffer = vec![0; RECORD_MAX];
     let mut feed = Feed::start();
     let mut fed = 0;
-    let mut listed = 0;
     loop {
-        match feed.read(&page[..fed], &mut buffer) {
+        let read = feed.read(&page[..fed], &mut buffer);
+        let listed = feed.good().records;
+        match read {
             Read::Record { start, length, .. } => {
-                listed += 1;
                 write_record(&mut output, start, &buffer[..length])?;
             }
             Read::More => {
@@ -47,17 +47,14 @@ pub fn list_segment(segment: &[u8]) -> String {
 
 fn list_slice(segment: &[u8], mut output: impl io::Write) -> io::Result<()> {
     let mut buffer = vec![0; RECORD_MAX];
-    let mut place = 0;
-    let mut listed = 0;
+    let mut good = Good::default();
     loop {
-        match segment::read(segment, place, &mut buffer) {
+        match segment::read(segment, good.offset, &mut buffer, &mut good) {
             Ok(Reading::Record(record)) => {
-                place = record.after;
-                listed += 1;
                 write_record(&mut output, record.start, &buffer[..record.length])?;
             }
-            Ok(Reading::End) => return writeln!(output, "clean {listed}"),
-            Err(refusal) => return write_refusal(&mut output, refusal, listed),
+            Ok(Reading::End) => return writeln!(output, "clean {}", good.records),
+            Err(refusal) => return write_refusal(&mut output, refusal, good.records),
         }
     }
 }
@@ -89,7 +86,7 @@ fn write_record(output: &mut impl io::Write, start: usize, record: &[u8]) -> io:
     writeln!(output, "record {start} {} {}", record.len(), record[0])
 }
 
-fn write_refusal(output: &mut impl io::Write, refusal: Refusal, listed: usize) -> io::Result<()> {
+fn write_refusal(output: &mut impl io::Write, refusal: Refusal, listed: u64) -> io::Result<()> {
     let Refusal { number, place } = refusal;
     if number == TORN {
         writeln!(output, "torn {place} {listed}")

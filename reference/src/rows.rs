@@ -7,7 +7,7 @@ use crate::body::{
 };
 use crate::histogram::{self, List};
 use crate::refusal::{Refusal, UNKNOWN_TYPE};
-use crate::segment::{self, Reading};
+use crate::segment::{self, Good, Reading};
 use crate::vectors::hex;
 
 /// The lines of a segment up to its end or its refusal. It is an error if a body is refused other
@@ -15,11 +15,10 @@ use crate::vectors::hex;
 pub fn text(segment: &[u8]) -> Result<String, String> {
     let mut buffer = vec![0; segment::RECORD_MAX];
     let mut lines = String::new();
-    let mut place = 0;
-    while let Ok(Reading::Record(record)) = segment::read(segment, place, &mut buffer) {
+    let good = &mut Good::default();
+    while let Ok(Reading::Record(record)) = segment::read(segment, good.offset, &mut buffer, good) {
         let body = &buffer[..record.length];
-        place = record.after;
-        lines += &record_line(place, body);
+        lines += &record_line(record.after, body);
         lines += &entry_lines(body).map_err(|Refusal { number, place }| {
             let start = record.start;
             format!("the body of the record at {start} is refused: {number} at {place}")

@@ -102,7 +102,8 @@ fn published_varints() -> Result<(), String> {
 /// 01 then six zero bytes is neither read nor written.
 fn empty_record_is_refused() -> Result<(), String> {
     let mut buffer = vec![0; segment::RECORD_MAX];
-    let read = segment::read(&[1, 0, 0, 0, 0, 0, 0], 0, &mut buffer);
+    let good = &mut segment::Good::default();
+    let read = segment::read(&[1, 0, 0, 0, 0, 0, 0], 0, &mut buffer, good);
     expect("empty record read", read, refuse(HOLLOW, 0))?;
     let mut page = vec![0; segment::PAGE];
     let written = segment::write(&mut page, 14, &[]);

@@ -5,7 +5,7 @@
 //! `segment LENGTH`, then for each read `record START LENGTH AFTER`, `end` or `refused NUMBER
 //! PLACE`.
 
-use crate::segment::{self, Reading, PAGE, RECORD_MAX};
+use crate::segment::{self, Good, Reading, PAGE, RECORD_MAX};
 use std::fmt::Write;
 
 const PAGES: usize = 4;
@@ -36,13 +36,12 @@ pub fn text() -> String {
 fn add_reads(lines: &mut String, bytes: &[u8]) {
     let mut line = |words: String| writeln!(lines, "{words}").expect("a string takes every line");
     line(format!("segment {}", bytes.len()));
-    let mut place = 0;
+    let mut good = Good::default();
     for _ in 0..READS {
-        match segment::read(bytes, place, &mut vec![0; RECORD_MAX]) {
+        match segment::read(bytes, good.offset, &mut vec![0; RECORD_MAX], &mut good) {
             Ok(Reading::Record(record)) => {
                 let (start, length) = (record.start, record.length);
                 line(format!("record {start} {length} {}", record.after));
-                place = record.after;
             }
             Ok(Reading::End) => line("end".to_string()),
             Err(refusal) => line(format!("refused {} {}", refusal.number, refusal.place)),

@@ -29,7 +29,7 @@
 //! read, for each of `CUTS`.
 
 use crate::refusal::Refusal;
-use crate::segment::{self, Reading, Record, HEADER, PAGE, RECORD_MAX};
+use crate::segment::{self, Good, Reading, Record, HEADER, PAGE, RECORD_MAX};
 use crate::varint::{self, Fault};
 use crate::{crc32c, selftest};
 use std::fmt::Write;
@@ -197,7 +197,8 @@ const TYPES: [u8; 8] = [0x09, 0x21, 0x29, 0x05, 0xE0, 0x18, 0x03, 0x04];
 fn add_types(lines: &mut String) {
     for type_byte in TYPES {
         let bytes = [type_byte, 0, 0, 0, 0, 0, 0];
-        let what = reading(segment::read(&bytes, 0, &mut vec![0; RECORD_MAX]));
+        let good = &mut Good::default();
+        let what = reading(segment::read(&bytes, 0, &mut vec![0; RECORD_MAX], good));
         line(lines, format_args!("type {type_byte:02x} -> {what}"));
     }
 }
@@ -214,13 +215,12 @@ fn add_cuts(lines: &mut String) {
     let mut slice = vec![0; PAGE];
     segment::write(&mut slice, 0, &SWITCH).expect("the switch fits");
     for cut in CUTS {
-        let mut place = 0;
+        let good = &mut Good::default();
         loop {
-            let read = segment::read(&slice[..cut], place, &mut vec![0; RECORD_MAX]);
+            let read = segment::read(&slice[..cut], good.offset, &mut vec![0; RECORD_MAX], good);
             line(lines, format_args!("cut {cut} -> {}", reading(read)));
-            match read {
-                Ok(Reading::Record(record)) => place = record.after,
-                _ => break,
+            if !matches!(read, Ok(Reading::Record(_))) {
+                break;
             }
         }
     }

@@ -7,8 +7,8 @@ use reference::crc32c;
 use reference::feed::{Feed, Read};
 use reference::refusal::*;
 use reference::segment::{
-    self, left_in_page, Reading, EMPTY, FIRST, FRAGMENT_MAX, FULL, HEADER, LAST, MIDDLE, PAGE,
-    RECORD_MAX, SEGMENT_MAX,
+    self, left_in_page, Good, Reading, EMPTY, FIRST, FRAGMENT_MAX, FULL, HEADER, LAST, MIDDLE,
+    PAGE, RECORD_MAX, SEGMENT_MAX,
 };
 use rng::Rng;
 use std::collections::BTreeSet;
@@ -40,8 +40,9 @@ struct Caller<'a> {
     page: &'a [u8],
     /// Bytes fed so far.
     fed: usize,
-    /// Where the slice reader stands.
+    /// Where the slice reader stands, and its pair.
     place: usize,
+    good: Good,
     buffer: Vec<u8>,
     slice_buffer: Vec<u8>,
 }
@@ -54,6 +55,7 @@ impl<'a> Caller<'a> {
             page: &[],
             fed: 0,
             place: 0,
+            good: Good::default(),
             buffer: vec![UNTOUCHED; RECORD_MAX],
             slice_buffer: vec![UNTOUCHED; RECORD_MAX],
         }
@@ -83,15 +85,29 @@ impl<'a> Caller<'a> {
         }
     }
 
+    /// The answer of the slice reader, whose pair is the feed's.
     fn read_slice(&mut self) -> Result<Reading, Refusal> {
-        segment::read(self.segment, self.place, &mut self.slice_buffer)
+        let buffer = &mut self.slice_buffer;
+        let read = segment::read(self.segment, self.place, buffer, &mut self.good);
+        assert_eq!(self.feed.good(), self.good);
+        read
+    }
+
+    /// The answer for the first bytes only.
+    fn read_first(&mut self, length: usize) -> Result<Reading, Refusal> {
+        let first = &self.segment[..length];
+        segment::read(
+            first,
+            self.place,
+            &mut self.slice_buffer,
+            &mut Good::default(),
+        )
     }
 
     /// More is asked for exactly when the pages so far leave the slice reader at their end, and
     /// never after the last page. Asked again, it is the same.
     fn feed_next(&mut self) {
-        let so_far = &self.segment[..self.fed];
-        match segment::read(so_far, self.place, &mut self.slice_buffer) {
+        match self.read_first(self.fed) {
             Ok(Reading::End) => {}
             Err(refusal) => assert_eq!(refusal.number, TORN),
             record => panic!("more is asked for, but there is {record:?}"),
@@ -104,6 +120,7 @@ impl<'a> Caller<'a> {
         self.page = &later[..later.len().min(PAGE)];
         self.fed += self.page.len();
         assert_eq!(self.feed.feed_page(self.page), Ok(()));
+        assert_eq!(self.feed.good(), self.good);
     }
 
     fn compare_record(&mut self, start: usize, length: usize, next: usize) {
@@ -125,7 +142,7 @@ impl<'a> Caller<'a> {
         if number == TORN {
             return self.compare_stored(place, self.segment.len());
         }
-        match segment::read(&self.segment[..place], self.place, &mut self.slice_buffer) {
+        match self.read_first(place) {
             Err(torn) => self.compare_stored(torn.place, place),
             Ok(_) => self.compare_stored(place, place),
         }
@@ -411,10 +428,9 @@ fn zeros_after_a_type_byte() {
 fn ends_of_records(segment: &[u8]) -> Vec<usize> {
     let mut buffer = vec![0; RECORD_MAX];
     let mut ends = vec![];
-    let mut place = 0;
-    while let Ok(Reading::Record(record)) = segment::read(segment, place, &mut buffer) {
-        place = record.after;
-        ends.push(place);
+    let good = &mut Good::default();
+    while let Ok(Reading::Record(record)) = segment::read(segment, good.offset, &mut buffer, good) {
+        ends.push(record.after);
     }
     ends
 }
@@ -454,6 +470,27 @@ fn a_hollow_fragment_is_refused_where_it_stands() {
     let last = fragment(LAST, &[7]);
     let good = [fragment(FIRST, &[]), fragment(MIDDLE, &[]), last].concat();
     assert_eq!(compare(&good), CLEAN);
+}
+
+/// What a technician may keep of the real segments: their records and the place after the last, as
+/// Prometheus' decoder gave them, up to the empty record that we refuse.
+#[test]
+fn the_good_length_of_what_prometheus_wrote() {
+    let folder = concat!(env!("CARGO_MANIFEST_DIR"), "/../tests/fixtures");
+    for (name, records, offset, number) in [
+        ("small_kill9", 294, 52_878, CLEAN),
+        ("cut_enospc_kill9", 32, 96_861, TORN),
+        ("real_encoder_extremes", 24, 22_162, HOLLOW),
+        ("compressed_default", 0, 0, COMPRESSED),
+    ] {
+        let segment = std::fs::read(format!("{folder}/{name}_00000000")).expect("a fixture");
+        assert_eq!(compare(&segment), number);
+        let mut buffer = vec![0; RECORD_MAX];
+        let good = &mut Good::default();
+        while let Ok(Reading::Record(_)) = segment::read(&segment, good.offset, &mut buffer, good) {
+        }
+        assert_eq!((good.records, good.offset), (records, offset), "{name}");
+    }
 }
 
 // ---- Orders of calls ----

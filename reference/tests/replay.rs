@@ -10,7 +10,7 @@ use reference::body::{
 use reference::histogram::{NewHistogram, Spans};
 use reference::refusal::*;
 use reference::replay::{replay, replay_strict, Replayed, Row, Table, SERIES_MAX};
-use reference::segment::{self, Reading, HEADER, PAGE, RECORD_MAX, SEGMENT_MAX};
+use reference::segment::{self, Good, Reading, HEADER, PAGE, RECORD_MAX, SEGMENT_MAX};
 use rng::Rng;
 use std::collections::BTreeSet;
 
@@ -133,6 +133,9 @@ struct Plain {
     /// Sample rows of the records replayed, counted from the log itself.
     sample_rows: u64,
     skipped: u64,
+    /// Records replayed and the place after the last.
+    records: u64,
+    end: usize,
 }
 
 impl Plain {
@@ -184,7 +187,7 @@ impl Plain {
         let mut state = Plain::default();
         let mut place = 0;
         loop {
-            let record = match segment::read(segment, place, buffer) {
+            let record = match segment::read(segment, place, buffer, &mut Good::default()) {
                 Ok(Reading::Record(record)) => record,
                 Ok(Reading::End) => return (state, None),
                 Err(refusal) => return (state, Some(refusal)),
@@ -198,6 +201,7 @@ impl Plain {
                 }
             }
             place = record.after;
+            (state.records, state.end) = (state.records + 1, place);
         }
     }
 }
@@ -238,6 +242,10 @@ fn compare_as(mode: Mode, segment: &[u8]) -> (Replayed, Vec<Row>) {
         series: plain.series.len(),
         orphans: plain.orphans,
         skipped: plain.skipped,
+        good: Good {
+            records: plain.records,
+            offset: plain.end,
+        },
     };
     assert_eq!(replayed, expected);
     let (series, behind) = table.split_at(replayed.series);
@@ -523,6 +531,7 @@ fn an_unknown_type_is_skipped() {
         ];
         let (replayed, known) = compare(&log(&bodies).0);
         assert_eq!((replayed.refusal, replayed.skipped), (None, 2));
+        assert_eq!(replayed.good.records, 4);
         assert_eq!(known, [row(7, 1, 5, 50)]);
     }
 }
@@ -533,6 +542,10 @@ fn an_unknown_type_stops_a_strict_replay() {
         let bodies = [series([7]), vec![kind, 1, 2], samples(&[(7, 5, 50)])];
         let (segment, starts) = log(&bodies);
         let (replayed, known) = compare_as(Mode::Strict, &segment);
+        assert_eq!(
+            (replayed.good.records, replayed.good.offset),
+            (1, starts[1])
+        );
         let (number, place) = (UNKNOWN_TYPE, starts[1]);
         assert_eq!(replayed.refusal, Some(Refusal { number, place }));
         assert_eq!((replayed.skipped, known), (0, vec![row(7, 0, 0, 0)]));
@@ -687,6 +700,7 @@ fn wrong_lengths() {
         series: 0,
         orphans: 0,
         skipped: 0,
+        good: Good::default(),
     };
     let mut table: Table = [BEFORE; SERIES_MAX];
     let mut short = vec![0xAA; RECORD_MAX - 1];
@@ -852,47 +866,54 @@ fn fixture(name: &str) -> Vec<u8> {
     std::fs::read(format!("{FIXTURES}/{name}_00000000")).expect("a fixture")
 }
 
-/// A real log: its name, the records skipped, and how it ends by default and strictly.
-type Real = (
-    &'static str,
-    u64,
-    Option<(u32, usize)>,
-    Option<(u32, usize)>,
-);
+/// A real log, and how its replay ends.
+struct Real {
+    name: &'static str,
+    /// The number and the place, or a clean end.
+    refusal: Option<(u32, usize)>,
+    skipped: u64,
+    /// The records replayed, and the place after the last.
+    good: (u64, usize),
+}
 
+/// No fixture has a record of an unknown type before its end, so that both replays say the same.
 const REAL: [Real; 4] = [
-    ("small_kill9", 0, None, None),
-    // Many more series than a table holds.
-    (
-        "cut_enospc_kill9",
-        0,
-        Some((TABLE_FULL, 3_986)),
-        Some((TABLE_FULL, 3_986)),
-    ),
+    Real {
+        name: "small_kill9",
+        refusal: None,
+        skipped: 0,
+        good: (294, 52_878),
+    },
+    // Many more series than a table holds: its eighth record brings the 257th.
+    Real {
+        name: "cut_enospc_kill9",
+        refusal: Some((TABLE_FULL, 3_986)),
+        skipped: 0,
+        good: (7, 3_986),
+    },
     // Its empty record comes before its types 5 and 200.
-    (
-        "real_encoder_extremes",
-        0,
-        Some((HOLLOW, 22_162)),
-        Some((HOLLOW, 22_162)),
-    ),
-    (
-        "compressed_default",
-        0,
-        Some((COMPRESSED, 0)),
-        Some((COMPRESSED, 0)),
-    ),
+    Real {
+        name: "real_encoder_extremes",
+        refusal: Some((HOLLOW, 22_162)),
+        skipped: 0,
+        good: (24, 22_162),
+    },
+    Real {
+        name: "compressed_default",
+        refusal: Some((COMPRESSED, 0)),
+        skipped: 0,
+        good: (0, 0),
+    },
 ];
 
 #[test]
 fn what_prometheus_wrote() {
-    let ending = |refusal: Option<Refusal>| refusal.map(|why| (why.number, why.place));
-    for (name, skipped, default, strict) in REAL {
-        let segment = fixture(name);
-        let (replayed, _) = compare(&segment);
-        assert_eq!(ending(replayed.refusal), default, "{name}");
-        assert_eq!(replayed.skipped, skipped, "{name}");
-        let (replayed, _) = compare_as(Mode::Strict, &segment);
-        assert_eq!(ending(replayed.refusal), strict, "{name}, strictly");
+    for real in REAL {
+        let (replayed, _) = compare(&fixture(real.name));
+        let refusal = replayed.refusal.map(|why| (why.number, why.place));
+        let Good { records, offset } = replayed.good;
+        assert_eq!(refusal, real.refusal, "{}", real.name);
+        assert_eq!(replayed.skipped, real.skipped, "{}", real.name);
+        assert_eq!((records, offset), real.good, "{}", real.name);
     }
 }
