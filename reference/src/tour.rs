@@ -3,7 +3,8 @@
 //! being i modulo 256; then ten reads of the whole segment and ten of its first 100,000 bytes, each
 //! at the place after the record just read, and at the same place again after an end or a refusal.
 //! `segment LENGTH`, then for each read `record START LENGTH AFTER`, `end` or `refused NUMBER
-//! PLACE`.
+//! PLACE`, and on the same line `good RECORDS OFFSET`: the pair that the reader then carries
+//! (document 02 [8]).
 
 use crate::segment::{self, Good, Reading, PAGE, RECORD_MAX};
 use std::fmt::Write;
@@ -38,13 +39,15 @@ fn add_reads(lines: &mut String, bytes: &[u8]) {
     line(format!("segment {}", bytes.len()));
     let mut good = Good::default();
     for _ in 0..READS {
-        match segment::read(bytes, good.offset, &mut vec![0; RECORD_MAX], &mut good) {
+        let read = segment::read(bytes, good.offset, &mut vec![0; RECORD_MAX], &mut good);
+        let answer = match read {
             Ok(Reading::Record(record)) => {
                 let (start, length) = (record.start, record.length);
-                line(format!("record {start} {length} {}", record.after));
+                format!("record {start} {length} {}", record.after)
             }
-            Ok(Reading::End) => line("end".to_string()),
-            Err(refusal) => line(format!("refused {} {}", refusal.number, refusal.place)),
-        }
+            Ok(Reading::End) => "end".to_string(),
+            Err(refusal) => format!("refused {} {}", refusal.number, refusal.place),
+        };
+        line(format!("{answer} good {} {}", good.records, good.offset));
     }
 }
