@@ -14,7 +14,7 @@ use crate::{Group, Outcome};
 use reference::body::{self, Entry, NewEntry, Sample, SeriesId, State, Strings, Timestamp};
 use reference::histogram::{self, Histogram};
 use reference::refusal::Refusal;
-use reference::segment::{self, Reading, RECORD_MAX};
+use reference::segment::{self, Good, Reading, RECORD_MAX};
 use reference::varint;
 use std::fmt;
 
@@ -575,11 +575,10 @@ fn build_list(rng: &mut Rng, bench: &mut Bench) -> Result<usize, String> {
 pub fn compare_file(rng: &mut Rng, bytes: &[u8]) -> Outcome {
     let mut bench = Bench::new(rng);
     let mut buffer = vec![0; RECORD_MAX];
-    let mut place = 0;
-    while let Ok(Reading::Record(record)) = segment::read(bytes, place, &mut buffer) {
+    let good = &mut Good::default();
+    while let Ok(Reading::Record(record)) = segment::read(bytes, good.offset, &mut buffer, good) {
         bench.body.put(&buffer[..record.length]);
         read_record(rng, &mut bench, record.length)?;
-        place = record.after;
     }
     Ok(bench.cases)
 }

@@ -1,5 +1,5 @@
-//! The page feed against the second program and against one slice: answer, `out`, the state, every
-//! byte of the page and of the record buffer, after each call.
+//! The page feed against the second program and against one slice: answer, `out` with the good
+//! length, the state, every byte of the page and of the record buffer, after each call.
 
 mod corpus;
 mod limit;
@@ -9,13 +9,13 @@ mod states;
 pub use corpus::compare_file;
 
 use crate::ffi::feed::{self, State, MORE};
-use crate::ffi::{self, Answer, END};
+use crate::ffi::{self, Answer, Pair, END};
 use crate::rng::Rng;
 use crate::twin::Twin;
 use crate::Group;
 use reference::feed::{Feed, Read};
 use reference::refusal::{Refusal, BAD_BUFFER};
-use reference::segment::{PAGE, RECORD_MAX, SEGMENT_MAX};
+use reference::segment::{Good, PAGE, RECORD_MAX, SEGMENT_MAX};
 
 pub fn groups() -> Vec<Group> {
     vec![
@@ -94,12 +94,12 @@ impl Feeds {
     }
 
     /// Feeds the first `length` bytes of what is offered.
-    fn feed(&mut self, length: usize) -> Result<Answer<1>, String> {
+    fn feed(&mut self, length: usize) -> Result<Answer<3>, String> {
         self.cases += 1;
         let before = self.ours;
         let (ours, theirs) = self.offer.both(0..length);
         let got = feed::feed_page(&mut self.ours, ours);
-        let wanted = page_answer(self.theirs.feed_page(theirs));
+        let wanted = page_answer(self.theirs.feed_page(theirs), self.theirs.good());
         let what = || format!("feed of {length} bytes after {}", self.total);
         compare(got, wanted, [&self.offer, &self.buffer])
             .and_then(|()| left(got.number != 0, &before, &self.ours))
@@ -114,25 +114,26 @@ impl Feeds {
     }
 
     /// Offers and feeds the page of these bytes that comes next.
-    fn feed_next(&mut self, bytes: &[u8]) -> Result<Answer<1>, String> {
+    fn feed_next(&mut self, bytes: &[u8]) -> Result<Answer<3>, String> {
         let rest = &bytes[self.total.min(bytes.len())..];
         let page = &rest[..rest.len().min(PAGE)];
         self.offer.put(page);
         self.feed(page.len())
     }
 
-    fn read(&mut self) -> Result<Answer<3>, String> {
+    fn read(&mut self) -> Result<Answer<5>, String> {
         self.read_into(self.fed, RECORD_MAX)
     }
 
     /// Reads with the first `lent` bytes of the page, into the first `room` bytes of the buffer.
-    fn read_into(&mut self, lent: usize, room: usize) -> Result<Answer<3>, String> {
+    fn read_into(&mut self, lent: usize, room: usize) -> Result<Answer<5>, String> {
         self.cases += 1;
         let before = self.ours;
         let (ours, theirs) = self.page.both(0..lent);
         let (our_buffer, their_buffer) = self.buffer.both(0..room);
         let got = feed::read(&mut self.ours, ours, our_buffer);
-        let wanted = read_answer(self.theirs.read(theirs, their_buffer));
+        let wanted = self.theirs.read(theirs, their_buffer);
+        let wanted = read_answer(wanted, self.theirs.good());
         let (fed, total) = (self.fed, self.total);
         let what = || format!("read with {lent} bytes of {fed} into {room}, {total} fed");
         compare(got, wanted, [&self.page, &self.buffer])
@@ -150,17 +151,19 @@ impl Feeds {
     fn read_all(&mut self, bytes: &[u8]) -> Result<(), String> {
         self.start()?;
         let mut place = 0;
+        let mut good = [0, 0];
         loop {
             let got = self.read()?;
             if got.number == MORE {
                 self.feed_asked(bytes)?;
                 continue;
             }
-            self.compare_with_slice(bytes, place, got)?;
+            self.compare_with_slice(bytes, place, good, got)?;
             if got.number != 0 {
                 return self.stay_at_end(got);
             }
             place = got.out[2] as usize;
+            good = [got.out[3], got.out[4]];
         }
     }
 
@@ -176,14 +179,15 @@ impl Feeds {
         }
     }
 
-    /// The answer, and the record's bytes, are those of one slice.
+    /// The answer, the pair and the record's bytes are those of one slice.
     fn compare_with_slice(
         &mut self,
         bytes: &[u8],
         place: usize,
-        got: Answer<3>,
+        good: Pair,
+        got: Answer<5>,
     ) -> Result<(), String> {
-        let wanted = ffi::read(bytes, place, &mut self.slice_buffer);
+        let wanted = ffi::read(bytes, place, &mut self.slice_buffer, good);
         let length = bytes.len();
         if got != wanted {
             return Err(format!(
@@ -200,7 +204,7 @@ impl Feeds {
     }
 
     /// The answer is given again, and no page is taken any more.
-    fn stay_at_end(&mut self, last: Answer<3>) -> Result<(), String> {
+    fn stay_at_end(&mut self, last: Answer<5>) -> Result<(), String> {
         let again = self.read()?;
         let fed = self.feed(0)?;
         if again != last || fed.number == 0 {
@@ -237,23 +241,27 @@ fn left(has_to: bool, before: &State, after: &State) -> Result<(), String> {
 }
 
 /// What `depot_wal_feed_page` has to answer.
-fn page_answer(fed: Result<(), Refusal>) -> Answer<1> {
-    match fed {
-        Ok(()) => Answer::new(0, [0]),
-        Err(refusal) => Answer::new(refusal.number, [refusal.place as u64]),
-    }
+fn page_answer(fed: Result<(), Refusal>, good: Good) -> Answer<3> {
+    let (number, place) = match fed {
+        Ok(()) => (0, 0),
+        Err(refusal) => (refusal.number, refusal.place),
+    };
+    Answer::new(number, [place as u64, good.records, good.offset as u64])
 }
 
 /// What `depot_wal_feed_read` has to answer.
-fn read_answer(read: Read) -> Answer<3> {
-    match read {
+fn read_answer(read: Read, good: Good) -> Answer<5> {
+    let (number, [first, length, next]) = match read {
         Read::Record {
             start,
             length,
             next,
-        } => Answer::new(0, [start as u64, length as u64, next as u64]),
-        Read::More => Answer::new(MORE, [0; 3]),
-        Read::CleanEnd => Answer::new(END, [0; 3]),
-        Read::Refused(refusal) => Answer::new(refusal.number, [refusal.place as u64, 0, 0]),
-    }
+        } => (0, [start, length, next]),
+        Read::More => (MORE, [0; 3]),
+        Read::CleanEnd => (END, [0; 3]),
+        Read::Refused(refusal) => (refusal.number, [refusal.place, 0, 0]),
+    };
+    let pair = [good.records, good.offset as u64];
+    let out = [first as u64, length as u64, next as u64, pair[0], pair[1]];
+    Answer::new(number, out)
 }

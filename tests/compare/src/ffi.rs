@@ -17,6 +17,9 @@ pub const TABLE_LEN: usize = 2048;
 
 pub type Table = [u32; TABLE_LEN];
 
+/// The good length: the number of whole records, and the offset after the last.
+pub type Pair = [u64; 2];
+
 /// What a clean or plain end returns.
 pub const END: u32 = 200;
 
@@ -156,6 +159,7 @@ extern "C" {
         place: usize,
         buffer: *mut u8,
         buffer_len: usize,
+        good: *mut u64,
         out: *mut u64,
     ) -> u32;
     fn depot_wal_write_with_table(
@@ -174,6 +178,7 @@ extern "C" {
         place: usize,
         buffer: *mut u8,
         buffer_len: usize,
+        good: *mut u64,
         out: *mut u64,
     ) -> u32;
 }
@@ -184,10 +189,15 @@ pub fn write(segment: &mut [u8], place: usize, record: &[u8]) -> Answer<2> {
     answer(|out| unsafe { depot_wal_write(segment, length, place, record, record_len, out) })
 }
 
-pub fn read(segment: &[u8], place: usize, buffer: &mut [u8]) -> Answer<3> {
+/// `out`, and then the pair that was handed back for the one given.
+pub fn read(segment: &[u8], place: usize, buffer: &mut [u8], good: Pair) -> Answer<5> {
     let (length, buffer_len) = (segment.len(), buffer.len());
     let (segment, buffer) = (pointer(segment), pointer_mut(buffer));
-    answer(|out| unsafe { depot_wal_read(segment, length, place, buffer, buffer_len, out) })
+    with_pair(good, |good| {
+        answer(|out| unsafe {
+            depot_wal_read(segment, length, place, buffer, buffer_len, good, out)
+        })
+    })
 }
 
 pub fn write_with_table(
@@ -209,11 +219,29 @@ pub fn read_with_table(
     segment: &[u8],
     place: usize,
     buffer: &mut [u8],
-) -> Answer<3> {
+    good: Pair,
+) -> Answer<5> {
     let (length, buffer_len) = (segment.len(), buffer.len());
     let (segment, buffer) = (pointer(segment), pointer_mut(buffer));
     let table = table.as_ptr();
-    answer(|out| unsafe {
-        depot_wal_read_with_table(table, segment, length, place, buffer, buffer_len, out)
+    with_pair(good, |good| {
+        answer(|out| unsafe {
+            depot_wal_read_with_table(table, segment, length, place, buffer, buffer_len, good, out)
+        })
     })
+}
+
+/// Makes the call with a guarded copy of the pair, and puts what it left there after `out`.
+fn with_pair(mut pair: Pair, call: impl FnOnce(*mut u64) -> Answer<3>) -> Answer<5> {
+    let Answer {
+        number,
+        out: [start, length, after],
+        beside,
+    } = lend(&mut pair, call);
+    let out = [start, length, after, pair[0], pair[1]];
+    Answer {
+        number,
+        out,
+        beside,
+    }
 }

@@ -1,6 +1,7 @@
-//! Replay against the second program, by default and strictly: answer, `out`, all numbers of the
-//! table, every byte of the segment and of the record buffer. And against the log itself: each
-//! sample row is counted once, and each record that is skipped.
+//! Replay against the second program, by default and strictly: answer, `out` with the good length,
+//! all numbers of the table, every byte of the segment and of the record buffer. And against the
+//! log itself: each sample row is counted once, each record that is skipped and each that is
+//! replayed.
 
 mod broken;
 mod corpus;
@@ -19,7 +20,7 @@ use crate::Group;
 use reference::body::{self, SeriesId, Timestamp, SAMPLES};
 use reference::refusal::{BAD_BUFFER, BAD_RANGE, BAD_VARINT, SHORT, TABLE_FULL, UNKNOWN_TYPE};
 use reference::replay::{Replayed, Row, Table, SERIES_MAX};
-use reference::segment::{self, Reading, RECORD_MAX};
+use reference::segment::{self, Good, Reading, RECORD_MAX};
 
 pub fn groups() -> Vec<Group> {
     vec![
@@ -169,8 +170,9 @@ impl Replays {
         Ok(())
     }
 
-    /// Rows counted over all series plus orphans equal the sample rows in the records replayed, and
-    /// records skipped those of types that are not known, both counted from the log itself.
+    /// Rows counted over all series plus orphans equal the sample rows in the records replayed,
+    /// records skipped are those of types that are not known, and the good length is that of the
+    /// records replayed: all counted from the log itself.
     fn count_again(
         &mut self,
         mode: Mode,
@@ -178,10 +180,15 @@ impl Replays {
         got: Answer<OUT_LEN>,
         table: &SeriesTable,
     ) -> Result<(), String> {
-        let [_, series, orphans, skipped] = got.out;
+        let [_, series, orphans, skipped, records, end] = got.out;
         let rows = table.chunks_exact(ROW_LEN).map(|row| row[1]);
         let rows = rows.take(series as usize).sum::<u64>() + orphans;
-        let counted = Counts { rows, skipped };
+        let counted = Counts {
+            rows,
+            skipped,
+            records,
+            end,
+        };
         let present = self.counts_in_log(mode, length, got)?;
         if counted != present {
             return Err(format!("counted {counted:?}, in the log {present:?}"));
@@ -202,16 +209,16 @@ impl Replays {
         }
         let refused = is_of_record(got.number).then_some(got.out[0] as usize);
         let bytes = self.segment.bytes(0..length);
-        let mut place = 0;
-        while let Ok(Reading::Record(record)) = segment::read(bytes, place, &mut self.count_buffer)
-        {
+        let buffer = &mut self.count_buffer;
+        let good = &mut Good::default();
+        while let Ok(Reading::Record(record)) = segment::read(bytes, good.offset, buffer, good) {
             if refused == Some(record.start) {
                 return Ok(counts);
             }
             counts
-                .add(mode, &self.count_buffer[..record.length])
+                .add(mode, &buffer[..record.length])
                 .map_err(|why| format!("the record at {} was replayed: {why}", record.start))?;
-            place = record.after;
+            counts.end = record.after as u64;
         }
         match refused {
             None => Ok(counts),
@@ -225,11 +232,15 @@ impl Replays {
 struct Counts {
     rows: u64,
     skipped: u64,
+    /// Records replayed, and the offset after the last.
+    records: u64,
+    end: u64,
 }
 
 impl Counts {
     /// A body that was replayed: it is good, or skipped. It has rows in one type only.
     fn add(&mut self, mode: Mode, bytes: &[u8]) -> Result<(), String> {
+        self.records += 1;
         match body::check(bytes) {
             Ok(entries) if bytes[0] == SAMPLES => self.rows += entries as u64,
             Ok(_) => {}
@@ -257,7 +268,9 @@ fn replay_answer(replayed: &Replayed) -> Answer<OUT_LEN> {
         Some(refusal) => (refusal.number, refusal.place),
     };
     let (series, orphans, skipped) = (replayed.series, replayed.orphans, replayed.skipped);
-    Answer::new(number, [place as u64, series as u64, orphans, skipped])
+    let Good { records, offset } = replayed.good;
+    let [place, series, offset] = [place, series, offset].map(|number| number as u64);
+    Answer::new(number, [place, series, orphans, skipped, records, offset])
 }
 
 // ---- Tables ----

@@ -36,12 +36,14 @@ fn library_rows(segment: &[u8]) -> Result<String, String> {
     let mut lines = String::new();
     let mut buffer = vec![0; RECORD_MAX];
     let mut place = 0;
+    let mut good = [0, 0];
     loop {
-        let answer = ffi::read(segment, place, &mut buffer);
+        let answer = ffi::read(segment, place, &mut buffer, good);
         if answer.number != 0 {
             return Ok(lines);
         }
-        let [_, length, next] = answer.out;
+        let [_, length, next, records, offset] = answer.out;
+        good = [records, offset];
         let body = &buffer[..length as usize];
         let tag = body.first().ok_or("an empty record came out")?;
         put(&mut lines, format_args!("record {next} {length} {tag}\n"));

@@ -1,6 +1,7 @@
-//! Writing and reading of segments against the second program: answer, `out`, every byte of the
-//! slice and of the buffer.
+//! Writing and reading of segments against the second program: answer, `out`, the good length,
+//! every byte of the slice and of the buffer.
 
+mod pairs;
 mod zeros;
 
 use crate::checksums::{fill_with_noise, own_table};
@@ -12,7 +13,7 @@ use crate::rng::Rng;
 use crate::twin::Twin;
 use crate::{Group, Outcome};
 use reference::refusal::Refusal;
-use reference::segment::{self, Reading, HEADER, PAGE, RECORD_MAX, SEGMENT_MAX};
+use reference::segment::{self, Good, Reading, HEADER, PAGE, RECORD_MAX, SEGMENT_MAX};
 
 pub fn groups() -> Vec<Group> {
     vec![
@@ -30,6 +31,7 @@ pub fn groups() -> Vec<Group> {
         ("read, foreign long records", compare_foreign_long),
         ("read, random bytes", compare_noise),
         ("read, bad lengths and places", compare_bad_lengths),
+        ("read, any good length", pairs::compare_pairs),
         ("read, at the limit", compare_read_limit),
         ("strange tables", compare_strange_tables),
     ]
@@ -82,8 +84,9 @@ impl Bench {
         }
     }
 
-    /// Reads the first `length` bytes of the segment at a place, with a caller's table or without.
-    fn read(&mut self, length: usize, place: usize) -> Result<Answer<3>, String> {
+    /// Reads the first `length` bytes of the segment at a place, with a caller's table or without,
+    /// and with any pair that is good there.
+    fn read(&mut self, length: usize, place: usize) -> Result<Answer<5>, String> {
         self.read_into(length, place, RECORD_MAX)
     }
 
@@ -92,18 +95,35 @@ impl Bench {
         length: usize,
         place: usize,
         buffer: usize,
-    ) -> Result<Answer<3>, String> {
+    ) -> Result<Answer<5>, String> {
+        let good = pairs::good_pair(&mut self.coin, place);
+        self.read_given(length, place, buffer, good)
+    }
+
+    fn read_given(
+        &mut self,
+        length: usize,
+        place: usize,
+        buffer: usize,
+        given: Good,
+    ) -> Result<Answer<5>, String> {
         let lent = self.coin.once_in(2);
         self.cases += 1;
+        let pair = [given.records, given.offset as u64];
+        let mut good = given;
         let (ours, theirs) = self.segment.both(0..length);
         let (our_buffer, their_buffer) = self.buffer.both(0..buffer);
         let got = if lent {
-            ffi::read_with_table(&self.table, ours, place, our_buffer)
+            ffi::read_with_table(&self.table, ours, place, our_buffer, pair)
         } else {
-            ffi::read(ours, place, our_buffer)
+            ffi::read(ours, place, our_buffer, pair)
         };
-        let wanted = read_answer(segment::read(theirs, place, their_buffer));
-        let what = || format!("read at {place} of {length} bytes into {buffer}, table {lent}");
+        let wanted = segment::read(theirs, place, their_buffer, &mut good);
+        let wanted = read_answer(wanted, good);
+        let what = || {
+            let what = format!("read at {place} of {length} bytes into {buffer}, table {lent}");
+            format!("{what}, pair {given:?}")
+        };
         self.compare((length, place), got, wanted, what)?;
         Ok(wanted)
     }
@@ -156,33 +176,49 @@ impl Bench {
         Ok(())
     }
 
-    /// Reads records from a place on until none comes.
+    /// Reads records from a place on until none comes, each with the pair last handed back.
     fn read_on(&mut self, length: usize, start: usize) -> Result<(), String> {
-        let mut place = start;
+        self.read_ends(length, start).map(drop)
+    }
+
+    /// The same, and hands back the places after the records. The pair counts them, and has the
+    /// last of them.
+    fn read_ends(&mut self, length: usize, start: usize) -> Result<Vec<usize>, String> {
+        let mut ends = Vec::new();
+        let mut good = Good::default();
         loop {
-            let answer = self.read(length, place)?;
-            if answer.number != 0 {
-                return Ok(());
+            let place = *ends.last().unwrap_or(&start);
+            let answer = self.read_given(length, place, RECORD_MAX, good)?;
+            if answer.number == 0 {
+                ends.push(answer.out[2] as usize);
             }
-            place = answer.out[2] as usize;
+            good = Good {
+                records: answer.out[3],
+                offset: answer.out[4] as usize,
+            };
+            let last = ends.last().copied().unwrap_or(0);
+            if good.records != ends.len() as u64 || good.offset != last {
+                return Err(format!(
+                    "{length} bytes from {start}: {good:?} for {ends:?}"
+                ));
+            }
+            if answer.number != 0 {
+                return Ok(ends);
+            }
         }
     }
 }
 
-/// What `depot_wal_read` has to answer.
-fn read_answer(reading: Result<Reading, Refusal>) -> Answer<3> {
-    match reading {
-        Ok(Reading::Record(record)) => Answer::new(
-            0,
-            [
-                record.start as u64,
-                record.length as u64,
-                record.after as u64,
-            ],
-        ),
-        Ok(Reading::End) => Answer::new(END, [0; 3]),
-        Err(refusal) => Answer::new(refusal.number, [refusal.place as u64, 0, 0]),
-    }
+/// What `depot_wal_read` has to answer, and then the pair.
+fn read_answer(reading: Result<Reading, Refusal>, good: Good) -> Answer<5> {
+    let (number, [first, length, after]) = match reading {
+        Ok(Reading::Record(record)) => (0, [record.start, record.length, record.after]),
+        Ok(Reading::End) => (END, [0; 3]),
+        Err(refusal) => (refusal.number, [refusal.place, 0, 0]),
+    };
+    let pair = [good.records, good.offset as u64];
+    let out = [first as u64, length as u64, after as u64, pair[0], pair[1]];
+    Answer::new(number, out)
 }
 
 /// What `depot_wal_write` has to answer: after a refusal the place given comes first.
@@ -662,15 +698,19 @@ fn strange_read(bench: &mut Bench, length: usize, place: usize) -> Result<(), St
     bench.cases += 1;
     let (ours, _) = bench.segment.both(0..length);
     let (our_buffer, their_buffer) = bench.buffer.both(0..RECORD_MAX);
-    let got = ffi::read_with_table(&bench.table, ours, place, our_buffer);
+    let got = ffi::read_with_table(&bench.table, ours, place, our_buffer, [0, 0]);
     if got.number == 0 {
         let filled = (got.out[1] as usize).min(RECORD_MAX);
         their_buffer[..filled].copy_from_slice(&our_buffer[..filled]);
     }
     let what = || format!("strange table, read at {place}");
     bench.compare((length, place), got, got, what)?;
-    match got.beside {
+    let pair = match got.number {
+        0 => [1, got.out[2]],
+        _ => [0, 0],
+    };
+    match got.beside || got.out[3..] != pair {
         false => Ok(()),
-        true => Err(format!("{}: wrote beside out", what())),
+        true => Err(format!("{}: {got:?}", what())),
     }
 }

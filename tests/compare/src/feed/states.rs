@@ -1,10 +1,11 @@
 //! States that no call handed out. The second program keeps none as numbers, so these are checked
 //! against what the interface promises for every state: a broken one is answered with 2 at 0 by
-//! both calls and nothing changes; any other is answered as if it had been handed out.
+//! both calls and nothing changes; any other is answered as if it had been handed out. The pair of
+//! every answer is the one that stands in the state, with a record more after a record.
 
 use super::{left, EXCESS};
 use crate::ffi::feed::{self, State, MORE, STATE_LEN};
-use crate::ffi::{Answer, END};
+use crate::ffi::{Answer, Pair, END};
 use crate::generate::{self, any_buffer, Splitting};
 use crate::rng::Rng;
 use crate::twin::Twin;
@@ -175,7 +176,7 @@ impl Trial {
         state: State,
         lent: usize,
         room: usize,
-        last: Answer<3>,
+        last: Answer<5>,
     ) -> Result<(), String> {
         let mut after = state;
         let got = self.read(&mut after, lent, room)?;
@@ -187,16 +188,27 @@ impl Trial {
 
     // ---- The calls ----
 
-    fn feed(&mut self, state: &mut State, length: usize) -> Result<Answer<1>, String> {
+    /// The pair that stands in a state, as the refusal of too long a page tells it.
+    fn pair_in(&mut self, state: &State) -> Result<Pair, String> {
+        let (page, _) = self.page.both(0..PAGE + EXCESS);
+        let [_, records, offset] = feed::feed_page(&mut state.clone(), page).out;
+        match state.contains(&records) && state.contains(&offset) {
+            true => Ok([records, offset]),
+            false => Err(format!("the pair {records}, {offset} is not in the state")),
+        }
+    }
+
+    fn feed(&mut self, state: &mut State, length: usize) -> Result<Answer<3>, String> {
         self.cases += 1;
         let before = *state;
+        let pair = self.pair_in(state)?;
         let (page, _) = self.page.both(0..length);
         let got = feed::feed_page(state, page);
         let good = match got.number {
-            0 | BAD_BUFFER | BAD_PLACE => got.out == [0],
+            0 | BAD_BUFFER | BAD_PLACE => got.out[0] == 0,
             number => is_standing(number),
         };
-        if !good || got.beside {
+        if !good || got.out[1..] != pair || got.beside {
             return Err(format!("feed of {length} bytes: {got:?}"));
         }
         self.compare(0)?;
@@ -205,19 +217,23 @@ impl Trial {
         Ok(got)
     }
 
-    fn read(&mut self, state: &mut State, lent: usize, room: usize) -> Result<Answer<3>, String> {
+    fn read(&mut self, state: &mut State, lent: usize, room: usize) -> Result<Answer<5>, String> {
         self.cases += 1;
         let before = *state;
+        let mut pair = self.pair_in(state)?;
         let (page, _) = self.page.both(0..lent);
         let (buffer, _) = self.buffer.both(0..room);
         let got = feed::read(state, page, buffer);
         let refused = got.number == BAD_BUFFER || got.number == BAD_PLACE;
+        if got.number == 0 {
+            pair = [pair[0].wrapping_add(1), got.out[2]];
+        }
         let good = match got.number {
             0 => got.out[1] <= RECORD_MAX as u64,
-            BAD_BUFFER | BAD_PLACE | MORE | END => got.out == [0; 3],
-            number => got.out[1..] == [0; 2] && (number == TORN || is_standing(number)),
+            BAD_BUFFER | BAD_PLACE | MORE | END => got.out[..3] == [0; 3],
+            number => got.out[1..3] == [0; 2] && (number == TORN || is_standing(number)),
         };
-        if !good || got.beside || (room < RECORD_MAX && !refused) {
+        if !good || got.out[3..] != pair || got.beside || (room < RECORD_MAX && !refused) {
             return Err(format!("read with {lent} bytes into {room}: {got:?}"));
         }
         self.compare(if refused { 0 } else { RECORD_MAX })?;

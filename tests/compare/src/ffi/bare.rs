@@ -31,10 +31,17 @@ pub fn write(segment: &mut [u8], place: usize, record: &[u8], out: &mut [u64; 2]
 }
 
 #[inline]
-pub fn read(segment: &[u8], place: usize, buffer: &mut [u8], out: &mut [u64; 3]) -> u32 {
+pub fn read(
+    segment: &[u8],
+    place: usize,
+    buffer: &mut [u8],
+    good: &mut Pair,
+    out: &mut [u64; 3],
+) -> u32 {
     let (length, bytes) = (segment.len(), segment.as_ptr());
     let (room, room_len) = (buffer.as_mut_ptr(), buffer.len());
-    unsafe { depot_wal_read(bytes, length, place, room, room_len, out.as_mut_ptr()) }
+    let (good, out) = (good.as_mut_ptr(), out.as_mut_ptr());
+    unsafe { depot_wal_read(bytes, length, place, room, room_len, good, out) }
 }
 
 #[inline]
@@ -57,12 +64,13 @@ pub fn read_with_table(
     segment: &[u8],
     place: usize,
     buffer: &mut [u8],
+    good: &mut Pair,
     out: &mut [u64; 3],
 ) -> u32 {
     let (length, bytes) = (segment.len(), segment.as_ptr());
     let (room, room_len) = (buffer.as_mut_ptr(), buffer.len());
-    let (table, out) = (table.as_ptr(), out.as_mut_ptr());
-    unsafe { depot_wal_read_with_table(table, bytes, length, place, room, room_len, out) }
+    let (table, good, out) = (table.as_ptr(), good.as_mut_ptr(), out.as_mut_ptr());
+    unsafe { depot_wal_read_with_table(table, bytes, length, place, room, room_len, good, out) }
 }
 
 // ---- The page feed ----
@@ -73,13 +81,13 @@ pub fn feed_start(state: &mut Feed) {
 }
 
 #[inline]
-pub fn feed_page(state: &mut Feed, page: &[u8], out: &mut [u64; 1]) -> u32 {
+pub fn feed_page(state: &mut Feed, page: &[u8], out: &mut [u64; 3]) -> u32 {
     let (state, out) = (state.as_mut_ptr(), out.as_mut_ptr());
     unsafe { depot_wal_feed_page(state, page.as_ptr(), page.len(), out) }
 }
 
 #[inline]
-pub fn feed_read(state: &mut Feed, page: &[u8], buffer: &mut [u8], out: &mut [u64; 3]) -> u32 {
+pub fn feed_read(state: &mut Feed, page: &[u8], buffer: &mut [u8], out: &mut [u64; 5]) -> u32 {
     let (length, bytes) = (page.len(), page.as_ptr());
     let (room, room_len) = (buffer.as_mut_ptr(), buffer.len());
     let (state, out) = (state.as_mut_ptr(), out.as_mut_ptr());

@@ -35,14 +35,16 @@ pub fn start() -> Option<State> {
     (!lent.beside()).then_some(lent.out)
 }
 
-pub fn feed_page(state: &mut State, page: &[u8]) -> Answer<1> {
+/// The place, and the pair.
+pub fn feed_page(state: &mut State, page: &[u8]) -> Answer<3> {
     let (length, page) = (page.len(), pointer(page));
     lend(state, |state| {
         answer(|out| unsafe { depot_wal_feed_page(state, page, length, out) })
     })
 }
 
-pub fn read(state: &mut State, page: &[u8], buffer: &mut [u8]) -> Answer<3> {
+/// Start, length, place after, and the pair.
+pub fn read(state: &mut State, page: &[u8], buffer: &mut [u8]) -> Answer<5> {
     let (length, buffer_len) = (page.len(), buffer.len());
     let (page, buffer) = (pointer(page), pointer_mut(buffer));
     lend(state, |state| {

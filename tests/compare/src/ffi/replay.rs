@@ -10,8 +10,9 @@ pub const REPLAY_LEN: usize = 256 * ROW_LEN;
 
 pub type SeriesTable = [u64; REPLAY_LEN];
 
-/// Numbers in `out`: the refusal's place, series, orphans, records skipped.
-pub const OUT_LEN: usize = 4;
+/// Numbers in `out`: the refusal's place, series, orphans, records skipped, records replayed and
+/// the offset after the last.
+pub const OUT_LEN: usize = 6;
 
 /// A replay: the segment, the buffer, the table, `out`.
 type Call = unsafe extern "C" fn(*const u8, usize, *mut u8, usize, *mut u64, *mut u64) -> u32;

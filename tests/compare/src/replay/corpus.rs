@@ -6,7 +6,7 @@ use crate::rng::Rng;
 use crate::twin::Twin;
 use crate::Outcome;
 use reference::body;
-use reference::segment::{self, Reading, RECORD_MAX};
+use reference::segment::{self, Good, Reading, RECORD_MAX};
 
 /// Few ids, which every record meets again: whole, and cut anywhere.
 pub fn compare_few(rng: &mut Rng) -> Outcome {
@@ -75,13 +75,12 @@ pub fn compare_file(rng: &mut Rng, bytes: &[u8]) -> Outcome {
 fn known_records(bytes: &[u8]) -> Log {
     let mut log = Log::default();
     let mut buffer = vec![0; RECORD_MAX];
-    let mut place = 0;
-    while let Ok(Reading::Record(record)) = segment::read(bytes, place, &mut buffer) {
+    let good = &mut Good::default();
+    while let Ok(Reading::Record(record)) = segment::read(bytes, good.offset, &mut buffer, good) {
         let body = &buffer[..record.length];
         if body::check(body).is_ok() {
             log.add(body);
         }
-        place = record.after;
     }
     log
 }

@@ -79,16 +79,7 @@ fn read_zeros(
 ) -> Result<Vec<usize>, String> {
     static NOTHING: [u8; 2 * PAGE] = [0; 2 * PAGE];
     bench.segment.put_at(cut, &NOTHING[..zeros]);
-    let mut ends = Vec::new();
-    let mut place = 0;
-    loop {
-        let answer = bench.read(cut + zeros, place)?;
-        if answer.number != 0 {
-            break;
-        }
-        place = answer.out[2] as usize;
-        ends.push(place);
-    }
+    let ends = bench.read_ends(cut + zeros, 0)?;
     bench.segment.put(&log.bytes);
     Ok(ends)
 }

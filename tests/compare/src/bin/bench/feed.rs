@@ -53,7 +53,7 @@ fn by_feed(full: &mut Full) {
     let mut pages = full.segment.chunks(PAGE);
     let mut page: &[u8] = &[];
     let mut state = [0; STATE_LEN];
-    let mut out = [0; 3];
+    let mut out = [0; 5];
     let mut count = 0;
     bare::feed_start(&mut state);
     let last = loop {
@@ -61,7 +61,7 @@ fn by_feed(full: &mut Full) {
             0 => count += 1,
             MORE => {
                 page = pages.next().unwrap_or(&[]);
-                bare::feed_page(&mut state, page, &mut [0]);
+                bare::feed_page(&mut state, page, &mut [0; 3]);
             }
             number => break number,
         }
@@ -70,10 +70,12 @@ fn by_feed(full: &mut Full) {
 }
 
 fn by_slice(full: &mut Full) {
+    let mut good = [0, 0];
     let mut out = [0; 3];
     let mut count = 0;
     let last = loop {
-        match bare::read(full.segment, out[2] as usize, &mut full.buffer, &mut out) {
+        let place = out[2] as usize;
+        match bare::read(full.segment, place, &mut full.buffer, &mut good, &mut out) {
             0 => count += 1,
             number => break number,
         }

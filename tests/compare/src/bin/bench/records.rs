@@ -2,9 +2,9 @@
 
 use crate::hardware;
 use crate::timing::{time, Rounds, HARDWARE, LENT, PLAIN, SECOND};
-use compare::ffi::{self, bare, Table};
+use compare::ffi::{self, bare, Pair, Table};
 use reference::refusal::Refusal;
-use reference::segment::{self, Reading, PAGE, RECORD_MAX, SEGMENT_MAX};
+use reference::segment::{self, Good, Reading, PAGE, RECORD_MAX, SEGMENT_MAX};
 use std::hint::black_box;
 
 /// Bytes of a record.
@@ -103,13 +103,15 @@ impl Full<'_> {
         assert_eq!(place, self.end, "a record was not written");
     }
 
-    /// Reads all records by `read`, which hands back the place after one.
-    fn read(&mut self, read: impl Fn(&[u8], usize, &mut [u8]) -> usize) {
-        let mut place = 0;
+    /// Reads all records by `read`, which takes the good length so far and hands back the one after
+    /// a record.
+    fn read(&mut self, read: impl Fn(&[u8], Good, &mut [u8]) -> Good) {
+        let mut good = Good::default();
         for _ in 0..self.count {
-            place = read(black_box(self.segment), place, black_box(&mut self.buffer));
+            good = read(black_box(self.segment), good, black_box(&mut self.buffer));
         }
-        assert_eq!(place, self.end, "a record was not read");
+        let whole = (self.count as u64, self.end);
+        assert_eq!((good.records, good.offset), whole, "a record was not read");
     }
 }
 
@@ -136,7 +138,7 @@ fn bench_read(full: &mut Full) -> Rounds<4> {
         full,
         [
             &|full| full.read(plain_read),
-            &|full| full.read(|segment, place, buffer| lent_read(&table, segment, place, buffer)),
+            &|full| full.read(|segment, good, buffer| lent_read(&table, segment, good, buffer)),
             &|full| full.read(second_read),
             &|full| full.read(hardware_read),
         ],
@@ -165,36 +167,45 @@ fn hardware_write(segment: &mut [u8], place: usize, record: &[u8]) -> usize {
     segment::write_with(&hardware::checksum, segment, place, record).expect("the records fit")
 }
 
-// ---- The place after the record that was read, by each contender ----
+// ---- The good length after the record that was read, by each contender ----
 
-fn plain_read(segment: &[u8], place: usize, buffer: &mut [u8]) -> usize {
-    let mut out = [0; 3];
-    bare::read(segment, place, buffer, &mut out);
-    out[2] as usize
+fn plain_read(segment: &[u8], good: Good, buffer: &mut [u8]) -> Good {
+    let mut pair = [good.records, good.offset as u64];
+    bare::read(segment, good.offset, buffer, &mut pair, &mut [0; 3]);
+    good_of(pair)
 }
 
-fn lent_read(table: &Table, segment: &[u8], place: usize, buffer: &mut [u8]) -> usize {
-    let mut out = [0; 3];
-    bare::read_with_table(table, segment, place, buffer, &mut out);
-    out[2] as usize
+fn lent_read(table: &Table, segment: &[u8], good: Good, buffer: &mut [u8]) -> Good {
+    let mut pair = [good.records, good.offset as u64];
+    let out = &mut [0; 3];
+    bare::read_with_table(table, segment, good.offset, buffer, &mut pair, out);
+    good_of(pair)
 }
 
-fn second_read(segment: &[u8], place: usize, buffer: &mut [u8]) -> usize {
-    after(segment::read(segment, place, buffer))
+fn good_of([records, offset]: Pair) -> Good {
+    let offset = offset as usize;
+    Good { records, offset }
 }
 
-fn hardware_read(segment: &[u8], place: usize, buffer: &mut [u8]) -> usize {
-    after(segment::read_with(
+fn second_read(segment: &[u8], mut good: Good, buffer: &mut [u8]) -> Good {
+    expect_record(segment::read(segment, good.offset, buffer, &mut good));
+    good
+}
+
+fn hardware_read(segment: &[u8], mut good: Good, buffer: &mut [u8]) -> Good {
+    let place = good.offset;
+    expect_record(segment::read_with(
         &hardware::checksum,
         segment,
         place,
         buffer,
-    ))
+        &mut good,
+    ));
+    good
 }
 
-fn after(reading: Result<Reading, Refusal>) -> usize {
-    match reading {
-        Ok(Reading::Record(record)) => record.after,
-        other => panic!("no record: {other:?}"),
+fn expect_record(reading: Result<Reading, Refusal>) {
+    if !matches!(reading, Ok(Reading::Record(_))) {
+        panic!("no record: {reading:?}");
     }
 }
