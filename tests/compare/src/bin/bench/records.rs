@@ -103,15 +103,19 @@ impl Full<'_> {
         assert_eq!(place, self.end, "a record was not written");
     }
 
-    /// Reads all records by `read`, which takes the good length so far and hands back the one after
-    /// a record.
-    fn read(&mut self, read: impl Fn(&[u8], Good, &mut [u8]) -> Good) {
-        let mut good = Good::default();
+    /// Reads all records by `read`, which goes on where the last one ended; what a contender keeps
+    /// from call to call stays in one place.
+    fn read<K: Kept>(&mut self, read: impl Fn(&[u8], &mut [u8], &mut K)) {
+        let mut kept = K::default();
         for _ in 0..self.count {
-            good = read(black_box(self.segment), good, black_box(&mut self.buffer));
+            read(
+                black_box(self.segment),
+                black_box(&mut self.buffer),
+                &mut kept,
+            );
         }
-        let whole = (self.count as u64, self.end);
-        assert_eq!((good.records, good.offset), whole, "a record was not read");
+        let whole = [self.count as u64, self.end as u64];
+        assert_eq!(kept.good(), whole, "a record was not read");
     }
 }
 
@@ -138,7 +142,7 @@ fn bench_read(full: &mut Full) -> Rounds<4> {
         full,
         [
             &|full| full.read(plain_read),
-            &|full| full.read(|segment, good, buffer| lent_read(&table, segment, good, buffer)),
+            &|full| full.read(|segment, buffer, kept| lent_read(&table, segment, buffer, kept)),
             &|full| full.read(second_read),
             &|full| full.read(hardware_read),
         ],
@@ -167,41 +171,57 @@ fn hardware_write(segment: &mut [u8], place: usize, record: &[u8]) -> usize {
     segment::write_with(&hardware::checksum, segment, place, record).expect("the records fit")
 }
 
-// ---- The good length after the record that was read, by each contender ----
+// ---- The next record, read by each contender ----
 
-fn plain_read(segment: &[u8], good: Good, buffer: &mut [u8]) -> Good {
-    let mut pair = [good.records, good.offset as u64];
-    bare::read(segment, good.offset, buffer, &mut pair, &mut [0; 3]);
-    good_of(pair)
+/// What a contender keeps from call to call, with the good length in it.
+trait Kept: Default {
+    fn good(&self) -> Pair;
 }
 
-fn lent_read(table: &Table, segment: &[u8], good: Good, buffer: &mut [u8]) -> Good {
-    let mut pair = [good.records, good.offset as u64];
-    let out = &mut [0; 3];
-    bare::read_with_table(table, segment, good.offset, buffer, &mut pair, out);
-    good_of(pair)
+/// As a C program keeps it.
+#[derive(Default)]
+struct Ours {
+    good: Pair,
+    /// Start, length, place after.
+    out: [u64; 3],
 }
 
-fn good_of([records, offset]: Pair) -> Good {
-    let offset = offset as usize;
-    Good { records, offset }
+impl Kept for Ours {
+    fn good(&self) -> Pair {
+        self.good
+    }
 }
 
-fn second_read(segment: &[u8], mut good: Good, buffer: &mut [u8]) -> Good {
-    expect_record(segment::read(segment, good.offset, buffer, &mut good));
-    good
+impl Kept for Good {
+    fn good(&self) -> Pair {
+        [self.records, self.offset as u64]
+    }
 }
 
-fn hardware_read(segment: &[u8], mut good: Good, buffer: &mut [u8]) -> Good {
-    let place = good.offset;
+fn plain_read(segment: &[u8], buffer: &mut [u8], kept: &mut Ours) {
+    let place = kept.out[2] as usize;
+    bare::read(segment, place, buffer, &mut kept.good, &mut kept.out);
+}
+
+fn lent_read(table: &Table, segment: &[u8], buffer: &mut [u8], kept: &mut Ours) {
+    let place = kept.out[2] as usize;
+    let (good, out) = (&mut kept.good, &mut kept.out);
+    bare::read_with_table(table, segment, place, buffer, good, out);
+}
+
+fn second_read(segment: &[u8], buffer: &mut [u8], good: &mut Good) {
+    expect_record(segment::read(segment, good.offset, buffer, good));
+}
+
+fn hardware_read(segment: &[u8], buffer: &mut [u8], good: &mut Good) {
+    let checksum = &hardware::checksum;
     expect_record(segment::read_with(
-        &hardware::checksum,
+        checksum,
         segment,
-        place,
+        good.offset,
         buffer,
-        &mut good,
+        good,
     ));
-    good
 }
 
 fn expect_record(reading: Result<Reading, Refusal>) {
