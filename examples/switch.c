@@ -94,10 +94,11 @@ static void write_switch(unsigned scooter, unsigned from, unsigned to, int64_t t
  * status that ended the reading. */
 static depot_wal_status read_log(size_t survived)
 {
+    struct depot_wal_good good = {0, 0};
     struct depot_wal_record r;
     depot_wal_status status;
     log_end = 0;
-    while ((status = depot_wal_read(flash, survived, log_end, buffer, sizeof buffer, &r))
+    while ((status = depot_wal_read(flash, survived, log_end, buffer, sizeof buffer, &good, &r))
            == DEPOT_WAL_DONE) {
         printf("  record at %3" PRIu64 ", %" PRIu64 " bytes\n", r.start, r.length);
         log_end = r.next;
@@ -116,6 +117,8 @@ static depot_wal_status read_log(size_t survived)
     } else {
         printf("  at %" PRIu64 ": %s\n", r.start, depot_wal_status_text(status));
     }
+    printf("  good length: %" PRIu64 " whole records in the first %" PRIu64 " bytes; cut there,"
+           " nothing whole is lost\n", good.records, good.offset);
     return status;
 }
 

@@ -16,6 +16,7 @@
  *         static uint8_t segment[DEPOT_WAL_PAGE], buffer[DEPOT_WAL_RECORD_MAX];
  *         static const uint8_t hello[] = "hello";
  *         struct depot_wal_written written;
+ *         struct depot_wal_good good = {0, 0};
  *         struct depot_wal_record record;
  *         depot_wal_status status;
  *         size_t place = 0;
@@ -25,14 +26,15 @@
  *             return 1;
  *         // Read what is on the medium: written.next bytes, or fewer after a power failure.
  *         while ((status = depot_wal_read(segment, written.next, place, buffer, sizeof buffer,
- *                                         &record)) == DEPOT_WAL_DONE) {
+ *                                         &good, &record)) == DEPOT_WAL_DONE) {
  *             fwrite(buffer, 1, record.length, stdout);
  *             place = record.next;
  *         }
  *         if (status == DEPOT_WAL_TORN)
  *             place = record.start; // resume writing here, over the truncated record
- *         else if (status != DEPOT_WAL_END)
- *             fprintf(stderr, "%s\n", depot_wal_status_text(status)); // start a new segment
+ *         else if (status != DEPOT_WAL_END) // start a new segment; what was whole is before here
+ *             fprintf(stderr, "%s, %zu bytes are good\n", depot_wal_status_text(status),
+ *                     (size_t)good.offset);
  *         return 0;
  *     }
  *
@@ -49,17 +51,18 @@
  *   A call that writes: the first field, `next` or `used`, is what to pass to the next call. On an
  *   error that is the value which this call was given (0 when starting a body), so always go on
  *   with it. `error_at` is the place of the error, else 0.
- *   A replay: `error_at` is the place of the error, else 0; the others always count the table.
+ *   A replay: `error_at` is the place of the error, else 0; the others always count.
+ *   `good`, of a feed and of a replay, is the good length so far, whatever is returned (see there).
  *   A place is an offset in the segment or in the body.
- *   On an error or at an end nothing but *out has changed; of the page feed and of a replay, see
- *   there.
+ *   On an error or at an end nothing but *out has changed, and *good is as it was given; of the
+ *   page feed and of a replay, see there.
  *
  * What the caller owes
- *   - Every pointer is valid for its length, `out`, `table` and `state` for their declared size,
- *     and aligned for its type. A pointer whose length is 0 may be NULL. `out`, `table` and `state`
- *     are never NULL.
- *   - What a call may write (the segment of a write, the buffer, `out`, `state`, a table to be
- *     filled) does not overlap anything else that is passed to the same call.
+ *   - Every pointer is valid for its length, `out`, `good`, `table` and `state` for their declared
+ *     size, and aligned for its type. A pointer whose length is 0 may be NULL. `out`, `good`,
+ *     `table` and `state` are never NULL.
+ *   - What a call may write (the segment of a write, the buffer, `out`, `good`, `state`, a table to
+ *     be filled) does not overlap anything else that is passed to the same call.
  *   - Nobody else writes any of this memory while the call runs.
  *   Nothing more: any bytes, place, length, type and number get a defined result.
  *
@@ -105,6 +108,12 @@
  *   otherwise       These bytes are not a log of this library that was cut off: they are corrupt,
  *                   or of another program. Keep them for whoever looks into it, and start a new
  *                   segment.
+ *
+ * The good length, for a technician
+ *   Every answer of a reading, the errors too, comes with a struct depot_wal_good: how many records
+ *   were whole up to it, and the offset just past the last of them. Truncate a copy of the medium
+ *   there, and nothing that was whole is lost. A reading begins with {0, 0} and passes to each read
+ *   the good length as the read before left it. To resume writing, see above.
  */
 #ifndef DEPOT_WAL_H
 #define DEPOT_WAL_H
@@ -225,6 +234,12 @@ struct depot_wal_built {
     uint64_t error_at; /* the place of the error, else 0 */
 };
 
+/* The good length of a reading: what was whole so far. {0, 0} before the first read. */
+struct depot_wal_good {
+    uint64_t records; /* how many records were whole */
+    uint64_t offset;  /* the place just past the last of them, 0 without any: truncate there */
+};
+
 /* Of a read: a record. */
 struct depot_wal_record {
     uint64_t start;  /* the place of its first fragment; on an error: the place of the error */
@@ -234,7 +249,16 @@ struct depot_wal_record {
 
 /* Of feeding a page. */
 struct depot_wal_fed {
-    uint64_t error_at; /* the place of the error, else 0 */
+    uint64_t error_at;          /* the place of the error, else 0 */
+    struct depot_wal_good good; /* the good length so far */
+};
+
+/* Of a read of a feed: a record. */
+struct depot_wal_feed_record {
+    uint64_t start;             /* as in struct depot_wal_record */
+    uint64_t length;
+    uint64_t next;
+    struct depot_wal_good good; /* the good length up to and with this answer */
 };
 
 /* Of the check of a body. */
@@ -304,6 +328,7 @@ struct depot_wal_replayed {
     uint64_t series;   /* how many series the table has, which are its first rows */
     uint64_t orphans;  /* how many samples had an id that was not entered before them */
     uint64_t skipped;  /* how many records were skipped, since their body type is unknown */
+    struct depot_wal_good good; /* the records replayed, skipped ones too, and where they end */
 };
 
 /* A row of the table of a replay: a series, and what it had last. */
@@ -319,12 +344,13 @@ struct depot_wal_series {
  * at compile time. */
 typedef char depot_wal_layout[
     sizeof(struct depot_wal_written) == 2 * 8 && sizeof(struct depot_wal_built) == 2 * 8 &&
-    sizeof(struct depot_wal_record) == 3 * 8 && sizeof(struct depot_wal_fed) == 1 * 8 &&
+    sizeof(struct depot_wal_good) == 2 * 8 && sizeof(struct depot_wal_record) == 3 * 8 &&
+    sizeof(struct depot_wal_fed) == 3 * 8 && sizeof(struct depot_wal_feed_record) == 5 * 8 &&
     sizeof(struct depot_wal_count) == 1 * 8 &&
     sizeof(struct depot_wal_entry) == 8 * 8 && sizeof(struct depot_wal_string) == 2 * 8 &&
     sizeof(struct depot_wal_list) == 2 * 8 && sizeof(struct depot_wal_histogram) == 18 * 8 &&
     sizeof(struct depot_wal_span) == 3 * 8 && sizeof(struct depot_wal_bucket) == 2 * 8 &&
-    sizeof(struct depot_wal_replayed) == 4 * 8 && sizeof(struct depot_wal_series) == 5 * 8
+    sizeof(struct depot_wal_replayed) == 6 * 8 && sizeof(struct depot_wal_series) == 5 * 8
         ? 1 : -1];
 
 /* ---- the segment ---- */
@@ -347,11 +373,15 @@ depot_wal_status depot_wal_write(uint8_t *segment, size_t segment_len, size_t pl
  * into the buffer. Padding and empty pages before it are skipped, so its start may be above the
  * place given.
  * segment_len is the number of bytes that are there, which need not be whole pages.
+ * `good` is the good length as the read before left it, {0, 0} at first; with a record it counts
+ * one more and goes to the place after it, else it stays.
  * Result: the record's start, its length and the place after it; DEPOT_WAL_END at a clean end.
  * Errors, with the place in `start`; after the first two they are checked for each fragment:
  *   DEPOT_WAL_BAD_BUFFER    0          the segment is above DEPOT_WAL_SEGMENT_MAX, or the buffer
  *                                      below DEPOT_WAL_RECORD_MAX
- *   DEPOT_WAL_BAD_PLACE     0          `place` is past the segment
+ *   DEPOT_WAL_BAD_PLACE     0          `place` is past the segment, or no read can have left this
+ *                                      `good`: more records than its offset, or an offset above
+ *                                      `place`
  *   DEPOT_WAL_NOT_ZERO      that byte  padding before the fragment is not zero
  *   DEPOT_WAL_RESERVED      type byte  a reserved bit is set
  *   DEPOT_WAL_COMPRESSED    type byte  a compression bit is set
@@ -366,9 +396,9 @@ depot_wal_status depot_wal_write(uint8_t *segment, size_t segment_len, size_t pl
  *   DEPOT_WAL_BAD_SUM       type byte  the checksum differs
  *   DEPOT_WAL_TORN          record     the bytes end where the record's next fragment should be
  * "type byte" is that of the fragment at hand, "record" the start of the truncated record.
- * Changes: with a record of n bytes the first n of the buffer, and *out. */
+ * Changes: with a record of n bytes the first n of the buffer, and *good; and *out. */
 depot_wal_status depot_wal_read(const uint8_t *segment, size_t segment_len, size_t place,
-                                uint8_t *buffer, size_t buffer_len,
+                                uint8_t *buffer, size_t buffer_len, struct depot_wal_good *good,
                                 struct depot_wal_record *out);
 
 /* ---- the page feed: a segment read page by page, for those who cannot hold it whole ---- */
@@ -392,14 +422,15 @@ depot_wal_status depot_wal_read(const uint8_t *segment, size_t segment_len, size
  *
  * The results are those of depot_wal_read on all the pages as one segment, as long as the page
  * that was fed is the same at every read until more is asked for, and so is the buffer while a
- * record is open. A state that no call left, of numbers beyond the limits, is
- * DEPOT_WAL_BAD_PLACE with place 0, before all else, and nothing but *out changes. */
+ * record is open. The state carries the good length, and every call of the feed gives it, whatever
+ * it returns. A state that no call left, of numbers beyond the limits, is DEPOT_WAL_BAD_PLACE with
+ * place 0, before all else, and nothing but *out changes; the good length is as in that state. */
 
 /* Starts a feed. No errors; changes the state. */
 void depot_wal_feed_start(uint64_t state[DEPOT_WAL_FEED_LEN]);
 
 /* Feeds the next page.
- * Result: error_at is 0.
+ * Result: error_at is 0. The good length stays, also on an error.
  * Errors, with error_at:
  *   of an earlier read     its place  one about the bytes, other than DEPOT_WAL_TORN: every later
  *                                     feed returns it again
@@ -423,7 +454,7 @@ depot_wal_status depot_wal_feed_page(uint64_t state[DEPOT_WAL_FEED_LEN], const u
  * state, and *out. */
 depot_wal_status depot_wal_feed_read(uint64_t state[DEPOT_WAL_FEED_LEN], const uint8_t *page,
                                      size_t page_len, uint8_t *buffer, size_t buffer_len,
-                                     struct depot_wal_record *out);
+                                     struct depot_wal_feed_record *out);
 
 /* ---- the checksum, and its table for those who read or write many short records ---- */
 
@@ -457,6 +488,7 @@ depot_wal_status depot_wal_write_with_table(const uint32_t table[DEPOT_WAL_TABLE
 depot_wal_status depot_wal_read_with_table(const uint32_t table[DEPOT_WAL_TABLE_LEN],
                                            const uint8_t *segment, size_t segment_len, size_t place,
                                            uint8_t *buffer, size_t buffer_len,
+                                           struct depot_wal_good *good,
                                            struct depot_wal_record *out);
 
 /* ---- encoding a body: start it, then add entries; its bytes are then a record to write ---- */
@@ -640,7 +672,9 @@ depot_wal_status depot_wal_bucket_at(const uint8_t *body, size_t len, size_t pla
  *   - A record whose first byte is not in enum depot_wal_type is skipped, and counted in `skipped`:
  *     types may be added to the format, and an older box goes on.
  * Each record counts wholly or not at all.
- * Result: how many series, orphans and skipped records there are.
+ * Result: how many series, orphans and skipped records there are, and the good length: the records
+ * replayed, skipped ones too, and the place after the last of them. It counts so also on an error;
+ * a record that is one is not counted.
  * Errors, with error_at. The table is then that of the records before:
  *   DEPOT_WAL_BAD_BUFFER   0         the segment is above DEPOT_WAL_SEGMENT_MAX, or the buffer
  *                                    below DEPOT_WAL_RECORD_MAX; all counts are 0

@@ -44,6 +44,7 @@ union result {
     struct depot_wal_built built;
     struct depot_wal_record record;
     struct depot_wal_fed fed;
+    struct depot_wal_feed_record feed_record;
     struct depot_wal_count count;
     struct depot_wal_entry entry;
     struct depot_wal_string string;
@@ -70,6 +71,8 @@ static int gives(depot_wal_status got, depot_wal_status status, const void *want
 #define BUILT(...) &(struct depot_wal_built){__VA_ARGS__}, sizeof(struct depot_wal_built)
 #define RECORD(...) &(struct depot_wal_record){__VA_ARGS__}, sizeof(struct depot_wal_record)
 #define FED(...) &(struct depot_wal_fed){__VA_ARGS__}, sizeof(struct depot_wal_fed)
+#define FEED_RECORD(...) \
+    &(struct depot_wal_feed_record){__VA_ARGS__}, sizeof(struct depot_wal_feed_record)
 #define COUNT(...) &(struct depot_wal_count){__VA_ARGS__}, sizeof(struct depot_wal_count)
 #define ENTRY(...) &(struct depot_wal_entry){__VA_ARGS__}, sizeof(struct depot_wal_entry)
 #define STRING(...) &(struct depot_wal_string){__VA_ARGS__}, sizeof(struct depot_wal_string)
@@ -113,7 +116,16 @@ static void layouts(void)
     FIELD(depot_wal_record, 0, start);
     FIELD(depot_wal_record, 1, length);
     FIELD(depot_wal_record, 2, next);
+    FIELD(depot_wal_good, 0, records);
+    FIELD(depot_wal_good, 1, offset);
     FIELD(depot_wal_fed, 0, error_at);
+    FIELD(depot_wal_fed, 1, good.records);
+    FIELD(depot_wal_fed, 2, good.offset);
+    FIELD(depot_wal_feed_record, 0, start);
+    FIELD(depot_wal_feed_record, 1, length);
+    FIELD(depot_wal_feed_record, 2, next);
+    FIELD(depot_wal_feed_record, 3, good.records);
+    FIELD(depot_wal_feed_record, 4, good.offset);
     FIELD(depot_wal_count, 0, count);
     FIELD(depot_wal_entry, 0, type);
     FIELD(depot_wal_entry, 1, id);
@@ -152,6 +164,8 @@ static void layouts(void)
     FIELD(depot_wal_replayed, 1, series);
     FIELD(depot_wal_replayed, 2, orphans);
     FIELD(depot_wal_replayed, 3, skipped);
+    FIELD(depot_wal_replayed, 4, good.records);
+    FIELD(depot_wal_replayed, 5, good.offset);
     FIELD(depot_wal_series, 0, id);
     FIELD(depot_wal_series, 1, rows);
     FIELD(depot_wal_series, 2, time);
@@ -250,12 +264,30 @@ static depot_wal_status write_by(int form, size_t len, size_t place, size_t n)
     return depot_wal_write_with_table(table, segment, len, place, record, n, &out->written);
 }
 
+static depot_wal_status read_given(int form, const uint8_t *bytes, size_t len, size_t place,
+                                   size_t buffer_len, struct depot_wal_good *good)
+{
+    if (form == PLAIN)
+        return depot_wal_read(bytes, len, place, buffer, buffer_len, good, &out->record);
+    return depot_wal_read_with_table(table, bytes, len, place, buffer, buffer_len, good,
+                                     &out->record);
+}
+
+/* A read that is given 4 good records before `place`: one more with a record, else the same, and
+ * nothing around it changes. */
 static depot_wal_status read_by(int form, const uint8_t *bytes, size_t len, size_t place,
                                 size_t buffer_len)
 {
-    if (form == PLAIN)
-        return depot_wal_read(bytes, len, place, buffer, buffer_len, &out->record);
-    return depot_wal_read_with_table(table, bytes, len, place, buffer, buffer_len, &out->record);
+    struct depot_wal_good was = {place < 4 ? place : 4, place}, goods[3];
+    memset(goods, PATTERN, sizeof goods);
+    goods[1] = was;
+    depot_wal_status status = read_given(form, bytes, len, place, buffer_len, &goods[1]);
+    if (status == DONE)
+        was = (struct depot_wal_good){was.records + 1, out->record.next};
+    CHECK(memcmp(&goods[1], &was, sizeof was) == 0);
+    CHECK(all((uint8_t *)goods, sizeof was, PATTERN) &&
+          all((uint8_t *)&goods[2], sizeof was, PATTERN));
+    return status;
 }
 
 /* Writes in both forms: the same result and bytes, and nothing else changes. */
@@ -475,7 +507,7 @@ static void write_errors(void)
     writes(__LINE__, PAGE, 10, 32751, PAGE);
     CHECK(GIVES(depot_wal_write(huge, LIMIT, LIMIT - 8, record, 1, &out->written), DONE,
                 WRITTEN(.next = LIMIT))); /* the limit itself is good */
-    CHECK(GIVES(depot_wal_read(huge, LIMIT, LIMIT - 8, buffer, sizeof buffer, &out->record), DONE,
+    CHECK(GIVES(read_by(PLAIN, huge, LIMIT, LIMIT - 8, sizeof buffer), DONE,
                 RECORD(.start = LIMIT - 8, .length = 1, .next = LIMIT)));
     reads_none(__LINE__, huge, LIMIT, LIMIT, DEPOT_WAL_END, 0);
     reads_none(__LINE__, huge, LIMIT + 1, LIMIT, DEPOT_WAL_BAD_BUFFER, 0);
@@ -487,12 +519,76 @@ static void read_errors(void)
     memset(buffer, 0x5C, sizeof buffer);
     for (int form = PLAIN; form <= WITH_TABLE; form++)
         CHECK(GIVES(read_by(form, segment, 7, 0, 65535), DEPOT_WAL_BAD_BUFFER, RECORD(.start = 0)));
-    CHECK(GIVES(depot_wal_read(segment, 7, 99, NULL, 0, &out->record), DEPOT_WAL_BAD_BUFFER,
+    struct depot_wal_good good = {1, 0};
+    CHECK(GIVES(depot_wal_read(segment, 7, 99, NULL, 0, &good, &out->record), DEPOT_WAL_BAD_BUFFER,
                 RECORD(.start = 0)));
     CHECK(all(buffer, sizeof buffer, 0x5C));
     reads_none(__LINE__, segment, 7, 8, DEPOT_WAL_BAD_PLACE, 0);
     reads_none(__LINE__, NULL, 0, 1, DEPOT_WAL_BAD_PLACE, 0);
     reads_none(__LINE__, segment, 7, SIZE_MAX, DEPOT_WAL_BAD_PLACE, 0);
+}
+
+/* A pair that no read can have left is BAD_PLACE, after BAD_BUFFER; it stays as it was given. */
+static void good_given(int line, size_t place, uint64_t records, uint64_t offset,
+                       depot_wal_status status)
+{
+    for (int form = PLAIN; form <= WITH_TABLE; form++) {
+        struct depot_wal_good good = {records, offset};
+        check(line, GIVES(read_given(form, segment, 7, place, sizeof buffer, &good), status,
+                          RECORD(.start = 0)),
+              "a pair");
+        check(line, good.records == records && good.offset == offset, "it stays");
+        check(line, GIVES(read_given(form, segment, 7, place, 65535, &good), DEPOT_WAL_BAD_BUFFER,
+                          RECORD(.start = 0)),
+              "after BAD_BUFFER");
+    }
+}
+
+static void good_pairs(void)
+{
+    memset(segment, 0, 7);
+    good_given(__LINE__, 7, 0, 0, DEPOT_WAL_END);
+    good_given(__LINE__, 7, 0, 5, DEPOT_WAL_END);
+    good_given(__LINE__, 7, 7, 7, DEPOT_WAL_END);
+    good_given(__LINE__, 6, 0, 7, DEPOT_WAL_BAD_PLACE);
+    good_given(__LINE__, 7, 6, 5, DEPOT_WAL_BAD_PLACE);
+    good_given(__LINE__, 7, 1, 0, DEPOT_WAL_BAD_PLACE);
+    good_given(__LINE__, 7, UINT64_MAX, UINT64_MAX, DEPOT_WAL_BAD_PLACE);
+    good_given(__LINE__, 7, UINT64_MAX, 7, DEPOT_WAL_BAD_PLACE);
+    good_given(__LINE__, 8, 0, 0, DEPOT_WAL_BAD_PLACE);
+}
+
+/* A reading from the start: the pair counts the records, also before filler, and says where the
+ * last one ends; an end, Torn and a corrupt record leave it. */
+static void good_reading(void)
+{
+    static const struct {
+        size_t cut, records, offset;
+        depot_wal_status status;
+    } cuts[] = {{0, 0, 0, DEPOT_WAL_END},      {5, 0, 0, DEPOT_WAL_TORN},
+                {8, 1, 8, DEPOT_WAL_END},      {32764, 2, 32764, DEPOT_WAL_END},
+                {32768, 2, 32764, DEPOT_WAL_END}, {32770, 2, 32764, DEPOT_WAL_TORN},
+                {32776, 3, 32776, DEPOT_WAL_END}};
+    fill_record();
+    memset(segment, 0, sizeof segment);
+    writes(__LINE__, 2 * PAGE, 0, 1, 8);
+    writes(__LINE__, 2 * PAGE, 8, 32749, PAGE); /* it ends 4 bytes before the page does */
+    writes(__LINE__, 2 * PAGE, PAGE, 1, PAGE + 8);
+    for (size_t i = 0; i < sizeof cuts / sizeof *cuts; i++) {
+        struct depot_wal_good good = {0, 0};
+        depot_wal_status status;
+        size_t place = 0;
+        while ((status = read_given(PLAIN, segment, cuts[i].cut, place, sizeof buffer, &good)) ==
+               DONE)
+            place = out->record.next;
+        CHECK(status == cuts[i].status);
+        CHECK(good.records == cuts[i].records && good.offset == cuts[i].offset);
+    }
+    segment[PAGE + 7] ^= 1; /* the third is corrupt: it is not counted */
+    struct depot_wal_good good = {2, 32764};
+    CHECK(GIVES(read_given(PLAIN, segment, 2 * PAGE, 32764, sizeof buffer, &good),
+                DEPOT_WAL_BAD_SUM, RECORD(.start = PAGE)));
+    CHECK(good.records == 2 && good.offset == 32764);
 }
 
 /* The errors of a read by the bytes, in the order of FORMAT 6.1 to 6.9. */
@@ -583,25 +679,29 @@ static void several_records(void)
 /* The state between two guards, and as it was before a call. */
 static uint64_t states[DEPOT_WAL_FEED_LEN + 2], was[DEPOT_WAL_FEED_LEN + 2];
 static uint64_t *const state = &states[1];
+static struct depot_wal_good fed_good; /* which the next answer should have */
 
 static void feed_starts(void)
 {
     memset(states, PATTERN, sizeof states);
     depot_wal_feed_start(state);
+    fed_good = (struct depot_wal_good){0, 0};
     CHECK(all((uint8_t *)states, 8, PATTERN) &&
           all((uint8_t *)(state + DEPOT_WAL_FEED_LEN), 8, PATTERN));
 }
 
 static void feeds(int line, const uint8_t *page, size_t n)
 {
-    check(line, GIVES(depot_wal_feed_page(state, page, n, &out->fed), DONE, FED(0)), "feed");
+    check(line, GIVES(depot_wal_feed_page(state, page, n, &out->fed), DONE, FED(.good = fed_good)),
+          "feed");
 }
 
 static void feed_fails(int line, const uint8_t *page, size_t n, depot_wal_status status,
                        uint64_t at)
 {
     memcpy(was, states, sizeof states);
-    check(line, GIVES(depot_wal_feed_page(state, page, n, &out->fed), status, FED(.error_at = at)),
+    check(line, GIVES(depot_wal_feed_page(state, page, n, &out->fed), status,
+                      FED(.error_at = at, .good = fed_good)),
           "error of a feed");
     check(line, memcmp(states, was, sizeof states) == 0, "an error leaves the state");
 }
@@ -610,16 +710,20 @@ static void feed_fails(int line, const uint8_t *page, size_t n, depot_wal_status
 static void feed_reads(int line, const uint8_t *page, size_t n, size_t start, size_t length,
                        size_t next)
 {
-    check(line, GIVES(depot_wal_feed_read(state, page, n, buffer, sizeof buffer, &out->record),
-                      DONE, RECORD(.start = start, .length = length, .next = next)),
+    fed_good = (struct depot_wal_good){fed_good.records + 1, next};
+    check(line, GIVES(depot_wal_feed_read(state, page, n, buffer, sizeof buffer,
+                                          &out->feed_record), DONE,
+                      FEED_RECORD(.start = start, .length = length, .next = next,
+                                  .good = fed_good)),
           "read of a page");
 }
 
 static void feed_stops(int line, const uint8_t *page, size_t n, depot_wal_status status,
                        uint64_t at)
 {
-    check(line, GIVES(depot_wal_feed_read(state, page, n, buffer, sizeof buffer, &out->record),
-                      status, RECORD(.start = at)),
+    check(line, GIVES(depot_wal_feed_read(state, page, n, buffer, sizeof buffer,
+                                          &out->feed_record), status,
+                      FEED_RECORD(.start = at, .good = fed_good)),
           "read of a page");
 }
 
@@ -656,8 +760,8 @@ static void feed_order(void)
     feed_fails(__LINE__, segment, PAGE, DEPOT_WAL_BAD_PLACE, 0); /* nobody has asked */
     feed_fails(__LINE__, segment, PAGE + 1, DEPOT_WAL_BAD_BUFFER, 0);
     feed_stays(__LINE__, segment, PAGE - 1, DEPOT_WAL_BAD_BUFFER, 0);
-    CHECK(GIVES(depot_wal_feed_read(state, segment, PAGE, buffer, 65535, &out->record),
-                DEPOT_WAL_BAD_BUFFER, RECORD(.start = 0)));
+    CHECK(GIVES(depot_wal_feed_read(state, segment, PAGE, buffer, 65535, &out->feed_record),
+                DEPOT_WAL_BAD_BUFFER, FEED_RECORD(.start = 0)));
     CHECK(holds(0));
     feed_stops(__LINE__, segment, PAGE, DEPOT_WAL_MORE, 0);
     CHECK(holds(32761));
@@ -724,10 +828,12 @@ static void feed_limits(void)
     feed_stops(__LINE__, NULL, 0, DEPOT_WAL_END, 0);
 
     memset(state, 0xFF, 8 * DEPOT_WAL_FEED_LEN);
+    fed_good = (struct depot_wal_good){UINT64_MAX, UINT64_MAX};
     feed_fails(__LINE__, segment, PAGE + 1, DEPOT_WAL_BAD_PLACE, 0);
     feed_stays(__LINE__, segment, PAGE, DEPOT_WAL_BAD_PLACE, 0);
-    CHECK(GIVES(depot_wal_feed_read(state, NULL, 0, NULL, 0, &out->record), DEPOT_WAL_BAD_PLACE,
-                RECORD(.start = 0)));
+    CHECK(GIVES(depot_wal_feed_read(state, NULL, 0, NULL, 0, &out->feed_record),
+                DEPOT_WAL_BAD_PLACE, FEED_RECORD(.good = fed_good)));
+    fed_good = (struct depot_wal_good){0, 0};
     for (uint64_t number = 11; number <= 14; number++) { /* of these only 13 can stand */
         memset(state, 0, 8 * DEPOT_WAL_FEED_LEN);
         state[3] = 8 * number;
@@ -741,19 +847,23 @@ static void feed_limits(void)
 static void feed_as_slice(size_t n)
 {
     static uint8_t other[sizeof buffer];
+    struct depot_wal_good good = {0, 0};
     struct depot_wal_record want;
     size_t place = 0, fed = 0, size = 0;
     feed_starts();
     for (;;) {
-        depot_wal_status status = depot_wal_read(segment, n, place, other, sizeof other, &want);
+        fed_good = good; /* of the answers before the record */
+        depot_wal_status status = depot_wal_read(segment, n, place, other, sizeof other, &good,
+                                                 &want);
         depot_wal_status got;
         while ((got = depot_wal_feed_read(state, segment + fed - size, size, buffer, sizeof buffer,
-                                          &out->record)) == DEPOT_WAL_MORE) {
+                                          &out->feed_record)) == DEPOT_WAL_MORE) {
             size = n - fed < PAGE ? n - fed : PAGE;
             feeds(__LINE__, segment + fed, size);
             fed += size;
         }
         CHECK(got == status && memcmp(&out->record, &want, sizeof want) == 0);
+        CHECK(memcmp(&out->feed_record.good, &good, sizeof good) == 0);
         if (status != DONE)
             return;
         CHECK(memcmp(buffer, other, want.length) == 0);
@@ -1480,6 +1590,20 @@ static size_t log_entries(uint8_t type, const struct entry *entries, size_t n)
 typedef depot_wal_status replayer(const uint8_t *, size_t, uint8_t *, size_t,
                                   struct depot_wal_series *, struct depot_wal_replayed *);
 
+/* The good length of the log, up to the record at `at` where there is an error there: by reads. */
+static struct depot_wal_good good_before(depot_wal_status status, size_t at)
+{
+    static uint8_t other[DEPOT_WAL_RECORD_MAX];
+    struct depot_wal_good good = {0, 0}, before = good;
+    struct depot_wal_record r;
+    while (depot_wal_read(segment, log_len, good.offset, other, sizeof other, &good, &r) == DONE) {
+        if (status != DONE && r.start >= at)
+            return before;
+        before = good;
+    }
+    return good;
+}
+
 static void replays_by(int line, replayer *replay, depot_wal_status status, uint64_t at,
                        uint64_t orphans, uint64_t skipped, const struct depot_wal_series *rows,
                        size_t n)
@@ -1489,7 +1613,7 @@ static void replays_by(int line, replayer *replay, depot_wal_status status, uint
     memset(buffer, 0x5C, sizeof buffer);
     check(line, GIVES(replay(segment, log_len, buffer, sizeof buffer, got, &out->replayed), status,
                       REPLAYED(.error_at = at, .series = n, .orphans = orphans,
-                               .skipped = skipped)),
+                               .skipped = skipped, .good = good_before(status, at))),
           "replay");
     check(line, n == 0 || memcmp(got, rows, n * sizeof *rows) == 0, "the series");
     check(line, all((const uint8_t *)(got + n), sizeof got - n * sizeof *got, PATTERN),
@@ -1684,6 +1808,8 @@ int main(int argc, char **argv)
     longest_records();
     write_errors();
     read_errors();
+    good_pairs();
+    good_reading();
     corrupt_bytes();
     foreign_bytes();
     several_records();

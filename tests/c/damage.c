@@ -82,16 +82,17 @@ static struct {
  * result, and of the buffer only what the record fills. */
 static depot_wal_status read_at(const struct damaged *c, const uint32_t *table, size_t place)
 {
+    struct depot_wal_good good = {.offset = place}; /* as good as any: this test counts itself */
     struct depot_wal_record *out = &result.record;
     uint8_t *to = buffer.bytes;
     depot_wal_status status;
     memset(&buffer, PATTERN, sizeof buffer);
     memset(&result, PATTERN, sizeof result);
     if (table == NULL)
-        status = depot_wal_read(c->segment, c->length, place, to, sizeof buffer.bytes, out);
+        status = depot_wal_read(c->segment, c->length, place, to, sizeof buffer.bytes, &good, out);
     else
         status = depot_wal_read_with_table(table, c->segment, c->length, place, to,
-                                           sizeof buffer.bytes, out);
+                                           sizeof buffer.bytes, &good, out);
     must(c->name, all(result.before, GUARD, PATTERN) && all(result.after, GUARD, PATTERN),
          "bytes around the result are unchanged");
     must(c->name, all(buffer.before, GUARD, PATTERN) && all(buffer.after, GUARD, PATTERN),

@@ -9,14 +9,15 @@ use borrow.Author.Tests.{le-leb, lt-leb, le-ltb, lt-ltb, ne-eqb}
 use lib.ListN.{getD, set}
 use lib.Seq.{set-getD}
 use lib.Dec.{eqb}
-use Rattle.feed_format.specs.declared.FeedState.{FeedState}
-use Rattle.feed_format.specs.declared.Fed.{Fed}
-use Rattle.feed_format.specs.declared.FeedRead.{FeedRead}
-use Rattle.feed_format.specs.declared.FeedAnswer.the-variants.{More}
-use Rattle.feed_format.specs.Feeding.{feedOn, Got, got, readOn}
-use Rattle.feed_format.specs.Laws.AtHand.{SamePage, read-same}
-use Rattle.feed_format.specs.Laws.Tests.{Hands}
-use Rattle.depot_wal_feed.specs.Numbers.{stored, storedPlace, stateOf, known, readCode, readOut, pageCall, feedPage, readCall, feedRead}
+use Rattle.wal_types.specs.declared.Refusal.the-variants.{BadPlace}
+use Rattle.feed_format.specs.declared.GoodFeed.{GoodFeed}
+use Rattle.feed_format.specs.declared.GoodFed.{GoodFed}
+use Rattle.feed_format.specs.declared.GoodFeedRead.{GoodFeedRead}
+use Rattle.feed_format.specs.declared.PageAnswer.the-variants.{Refused as PageRefused}
+use Rattle.feed_format.specs.declared.FeedAnswer.the-variants.{Refused}
+use Rattle.feed_format.specs.Pairing.{goodFeedOn, GoodGot, goodReadOn}
+use Rattle.feed_format.specs.Laws.Pairs.{GoodHands, GoodSame, good-same}
+use Rattle.depot_wal_feed.specs.Numbers.{stored, storedPlace, pairOf, stateOf, known, pageOut, readCode, readOut, pageCall, feedPage, readCall, feedRead}
 
 -- ---- whether numbers are a state
 
@@ -45,50 +46,49 @@ module _ (s : List ℕ) where
 
 module _ (s page : List ℕ) where
   -- numbers that are a state
-  pub page-told : (g : FeedState) (r : Fed) → known s ≡ true → g ≡ stateOf s → r ≡ feedOn g page → pageCall s r ≡ feedPage s page
+  pub page-told : (g : GoodFeed) (r : GoodFed) → known s ≡ true → g ≡ stateOf s → r ≡ goodFeedOn g page → pageCall s r ≡ feedPage s page
   unfolding feedPage
-  page-told g r h eg er = rw h (ap (pageCall s) (er ∙ ap (λ (f : FeedState). feedOn f page) eg))
+  page-told g r h eg er = rw h (ap (pageCall s) (er ∙ ap (λ (f : GoodFeed). goodFeedOn f page) eg))
 
   -- and others
-  pub page-unknown : known s ≡ false → record { code = 2; out = 0 ∷ []; state = s } ≡ feedPage s page
+  pub page-unknown : known s ≡ false → record { code = 2; out = pageOut (PageRefused BadPlace) (pairOf s); state = s } ≡ feedPage s page
   unfolding feedPage
   page-unknown h = rw h
 
 module _ (sum : ℕ → List ℕ → ℕ) (s page b : List ℕ) where
   -- numbers that are a state
-  pub read-is : (g : FeedState) → known s ≡ true → g ≡ stateOf s → readCall s (readOn sum g page b) ≡ feedRead sum s page b
+  pub read-is : (g : GoodFeed) → known s ≡ true → g ≡ stateOf s → readCall s (goodReadOn sum g page b) ≡ feedRead sum s page b
   unfolding feedRead
-  read-is g h eg = rw h (ap (λ (f : FeedState). readCall s (readOn sum f page b)) eg)
+  read-is g h eg = rw h (ap (λ (f : GoodFeed). readCall s (goodReadOn sum f page b)) eg)
 
   -- a read leaves the page at hand, so its two numbers stay
-  place-stored : (f g : FeedState) → f ≡ stateOf s → SamePage f (got g More b) → storedPlace g s ≡ stored g s
+  place-stored : (f g : GoodFeed) → f ≡ stateOf s → GoodSame f g → storedPlace g s ≡ stored g s
   place-stored f g ef h =
-      let eb : getD s 0 0 ≡ g .base = sym (h .base-same ∙ ap (λ (x : FeedState). x .base) ef) in
-      let es : getD s 1 0 ≡ g .size = sym (h .size-same ∙ ap (λ (x : FeedState). x .size) ef) in
-      let e0 : set s 0 (g .base) ≡ s = ap (λ (n : ℕ). set s 0 n) (sym eb) ∙ set-getD s 0 0 in
-      let e1 : set s 1 (g .size) ≡ s = ap (λ (n : ℕ). set s 1 n) (sym es) ∙ set-getD s 1 0 in
-      sym (ap (λ (l : List ℕ). storedPlace g l) (ap (λ (l : List ℕ). set l 1 (g .size)) e0 ∙ e1))
+      let eb : getD s 0 0 ≡ g .state .base = sym (h .0 ∙ ap (λ (x : GoodFeed). x .state .base) ef) in
+      let es : getD s 1 0 ≡ g .state .size = sym (h .1 ∙ ap (λ (x : GoodFeed). x .state .size) ef) in
+      let e0 : set s 0 (g .state .base) ≡ s = ap (λ (n : ℕ). set s 0 n) (sym eb) ∙ set-getD s 0 0 in
+      let e1 : set s 1 (g .state .size) ≡ s = ap (λ (n : ℕ). set s 1 n) (sym es) ∙ set-getD s 1 0 in
+      sym (ap (λ (l : List ℕ). storedPlace g l) (ap (λ (l : List ℕ). set l 1 (g .state .size)) e0 ∙ e1))
 
-  pub read-told : (g : FeedState) (r : FeedRead) (c : List ℕ)
+  pub read-told : (g : GoodFeed) (r : GoodFeedRead) (c : List ℕ)
       → known s ≡ true
       → g ≡ stateOf s
-      → Hands (readOn sum g page b) r c
-      → record { code = readCode (r .answer); out = readOut (r .answer); state = storedPlace (r .state) s; buffer = c } ≡ feedRead sum s page b
+      → GoodHands g page sum b r c
+      → record { code = readCode (r .answer); out = readOut (r .answer) (r .feed .good); state = storedPlace (r .feed) s; buffer = c } ≡ feedRead sum s page b
   read-told g r c h eg er =
-      let same = read-same sum page g b in
-      let x : Got = readOn sum g page b in
+      let x : GoodGot = goodReadOn sum g page b in
       (λ i. record {
         code = readCode (er .0 i .answer);
-        out = readOut (er .0 i .answer);
-        state = storedPlace (er .0 i .state) s;
+        out = readOut (er .0 i .answer) (er .0 i .feed .good);
+        state = storedPlace (er .0 i .feed) s;
         buffer = er .1 i;
       }) ∙ (λ i. record {
         code = readCode (x .answer);
-        out = readOut (x .answer);
-        state = place-stored g (x .state) eg record { base-same = same .base-same; size-same = same .size-same } i;
+        out = readOut (x .answer) (x .feed .good);
+        state = place-stored g (x .feed) eg (good-same sum page g b) i;
         buffer = x .buffer;
       }) ∙ read-is g h eg
 
-  pub read-unknown : known s ≡ false → record { code = 2; out = 0 ∷ 0 ∷ 0 ∷ []; state = s; buffer = b } ≡ feedRead sum s page b
+  pub read-unknown : known s ≡ false → record { code = 2; out = readOut (Refused BadPlace) (pairOf s); state = s; buffer = b } ≡ feedRead sum s page b
   unfolding feedRead
   read-unknown h = rw h

@@ -8,6 +8,7 @@ use crate::numbers::store;
 use crate::numbers::store_place;
 use feed_format::FeedAnswer;
 use feed_format::PageAnswer;
+use segment_format::Good;
 
 // A fresh state.
 #[no_mangle]
@@ -17,55 +18,59 @@ pub extern "C" fn depot_wal_feed_start(state: &mut [u64; 16])
     *state = [0, 0, 0, 1, 0, 0, 0, 0, 0, 0, 0, 0, 0, 0, 0, 0];
 }
 
-// A feed's answer as numbers.
-fn page_result(answer: PageAnswer, out: &mut [u64; 1]) -> u32
-    ensures { λ r. ⌜ (r ≡ pageCode answer) × (now (out .exit) ≡ pageOut answer) ⌝ }
+// A feed's answer and its pair as numbers.
+fn page_result(answer: PageAnswer, good: Good, out: &mut [u64; 3]) -> u32
+    ensures { λ r. ⌜ (r ≡ pageCode answer) × (now (out .exit) ≡ pageOut answer good) ⌝ }
 {
+    let records = good.records as u64;
+    let end = good.offset.0 as u64;
     match answer {
         PageAnswer::Taken => {
-            *out = [0];
+            *out = [0, records, end];
             0
         }
         PageAnswer::Refused(why) => {
             let at = wal_types::place(why);
-            *out = [at.0 as u64];
+            *out = [at.0 as u64, records, end];
             wal_types::number(why)
         }
     }
 }
 
-// A read's answer as numbers.
-fn read_result(answer: FeedAnswer, out: &mut [u64; 3]) -> u32
-    ensures { λ r. ⌜ (r ≡ readCode answer) × (now (out .exit) ≡ readOut answer) ⌝ }
+// A read's answer and its pair as numbers.
+fn read_result(answer: FeedAnswer, good: Good, out: &mut [u64; 5]) -> u32
+    ensures { λ r. ⌜ (r ≡ readCode answer) × (now (out .exit) ≡ readOut answer good) ⌝ }
 {
+    let records = good.records as u64;
+    let end = good.offset.0 as u64;
     match answer {
         FeedAnswer::Record {
             start,
             length,
             next,
         } => {
-            *out = [start.0 as u64, length as u64, next.0 as u64];
+            *out = [start.0 as u64, length as u64, next.0 as u64, records, end];
             0
         }
         FeedAnswer::More => {
-            *out = [0, 0, 0];
+            *out = [0, 0, 0, records, end];
             201
         }
         FeedAnswer::End => {
-            *out = [0, 0, 0];
+            *out = [0, 0, 0, records, end];
             200
         }
         FeedAnswer::Refused(why) => {
             let at = wal_types::place(why);
-            *out = [at.0 as u64, 0, 0];
+            *out = [at.0 as u64, 0, 0, records, end];
             wal_types::number(why)
         }
     }
 }
 
-// Feeds the next page (FORMAT 17.3).
+// Feeds the next page (FORMAT 17.3). Numbers that are no state keep their pair (FORMAT 17.9).
 #[no_mangle]
-pub extern "C" fn depot_wal_feed_page(state: &mut [u64; 16], page: &[u8], out: &mut [u64; 1]) -> u32
+pub extern "C" fn depot_wal_feed_page(state: &mut [u64; 16], page: &[u8], out: &mut [u64; 3]) -> u32
     ensures { λ r. ⌜
         (r ≡ feedPage (now (state .entry)) (now (page .entry)) .code)
         × (now (out .exit) ≡ feedPage (now (state .entry)) (now (page .entry)) .out)
@@ -74,13 +79,14 @@ pub extern "C" fn depot_wal_feed_page(state: &mut [u64; 16], page: &[u8], out: &
     if is_known(state) {
         let given = state_of(state);
         let fed = segment_feed::feed_page(given, page);
-        let next = fed.state;
+        let next = fed.feed;
+        let good = next.good;
         let answer = fed.answer;
-        let code = page_result(answer, out);
+        let code = page_result(answer, good, out);
         store(next, state);
         return code;
     }
-    *out = [0];
+    *out = [0, state[7], state[8]];
     2
 }
 
@@ -90,7 +96,7 @@ pub extern "C" fn depot_wal_feed_read(
     state: &mut [u64; 16],
     page: &[u8],
     buffer: &mut [u8],
-    out: &mut [u64; 3],
+    out: &mut [u64; 5],
 ) -> u32
     ensures { λ r. ⌜
         (r ≡ feedRead crcSum (now (state .entry)) (now (page .entry)) (now (buffer .entry)) .code)
@@ -101,13 +107,14 @@ pub extern "C" fn depot_wal_feed_read(
     if is_known(state) {
         let given = state_of(state);
         let read = segment_feed::read(given, page, buffer);
-        let next = read.state;
+        let next = read.feed;
+        let good = next.good;
         let answer = read.answer;
         // The answer first: the compiler then knows it on each way and makes no table of jumps.
-        let code = read_result(answer, out);
+        let code = read_result(answer, good, out);
         store_place(next, state);
         return code;
     }
-    *out = [0, 0, 0];
+    *out = [0, 0, 0, state[7], state[8]];
     2
 }

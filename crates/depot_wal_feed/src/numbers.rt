@@ -1,10 +1,12 @@
-// A feed's state as the numbers that C keeps: base, size, place in the page, marks, start, held,
-// and the place of a refusal that stands. The others are spare.
+// A feed's state as the numbers that C keeps: base, size, place in the page, marks, start, held, the
+// place of a refusal that stands, and the pair. The others are spare.
 ghost use mathlib.Core.Path.{_≡_};
 ghost use Prim.Native.Nat.{_≤_};
 ghost use Rattle.depot_wal_feed.specs.Numbers.{standingOf, bit, marks, stored, storedPlace, stateOf, known, standingNumber, standingPlace};
 use feed_format::FeedState;
+use feed_format::GoodFeed;
 use feed_format::Standing;
+use segment_format::Good;
 use wal_types::Offset;
 use wal_types::Refusal;
 
@@ -45,12 +47,12 @@ pub(crate) fn is_known(state: &[u64; 16]) -> bool
 }
 
 // The state that the numbers are.
-pub(crate) fn state_of(state: &[u64; 16]) -> FeedState
+pub(crate) fn state_of(state: &[u64; 16]) -> GoodFeed
     ensures { λ r. ⌜ r ≡ stateOf (now (state .entry)) ⌝ }
 {
     let marks = state[3];
     let standing = standing_of(marks / 8, state[6]);
-    FeedState {
+    let inner = FeedState {
         base: state[0] as usize,
         size: state[1] as usize,
         at: state[2] as usize,
@@ -60,6 +62,13 @@ pub(crate) fn state_of(state: &[u64; 16]) -> FeedState
         start: Offset(state[4] as usize),
         held: state[5] as usize,
         standing,
+    };
+    GoodFeed {
+        state: inner,
+        good: Good {
+            records: state[7] as usize,
+            offset: Offset(state[8] as usize),
+        },
     }
 }
 
@@ -99,22 +108,27 @@ fn marks_of(asked: bool, ended: bool, opened: bool, standing: Standing) -> u64
 }
 
 // Stores what a read changes of a state; the page at hand and the spare numbers stay.
-pub(crate) fn store_place(next: FeedState, state: &mut [u64; 16])
+pub(crate) fn store_place(next: GoodFeed, state: &mut [u64; 16])
     ensures { λ _. ⌜ now (state .exit) ≡ storedPlace next (now (state .entry)) ⌝ }
 {
-    let standing = next.standing;
-    state[2] = next.at as u64;
-    state[3] = marks_of(next.asked, next.ended, next.opened, standing);
-    state[4] = next.start.0 as u64;
-    state[5] = next.held as u64;
+    let inner = next.state;
+    let standing = inner.standing;
+    state[2] = inner.at as u64;
+    state[3] = marks_of(inner.asked, inner.ended, inner.opened, standing);
+    state[4] = inner.start.0 as u64;
+    state[5] = inner.held as u64;
     state[6] = standing_place(standing);
+    let good = next.good;
+    state[7] = good.records as u64;
+    state[8] = good.offset.0 as u64;
 }
 
 // Stores a state in the numbers; the spare ones stay.
-pub(crate) fn store(next: FeedState, state: &mut [u64; 16])
+pub(crate) fn store(next: GoodFeed, state: &mut [u64; 16])
     ensures { λ _. ⌜ now (state .exit) ≡ stored next (now (state .entry)) ⌝ }
 {
-    state[0] = next.base as u64;
-    state[1] = next.size as u64;
+    let inner = next.state;
+    state[0] = inner.base as u64;
+    state[1] = inner.size as u64;
     store_place(next, state);
 }

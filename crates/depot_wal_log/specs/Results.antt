@@ -6,7 +6,7 @@ use Prim.Native.Nat.{ℕ}
 use Rattle.wal_types.specs.Refusals.{placeOf}
 use Rattle.log_format.specs.declared.ReplayAnswer.{ReplayAnswer}
 use Rattle.log_format.specs.declared.ReplayAnswer.the-variants.{Done, Unread, Stopped}
-use Rattle.log_format.specs.declared.Replayed.{Replayed}
+use Rattle.log_format.specs.declared.GoodReplayed.{GoodReplayed}
 
 -- the place: of a reading's refusal its own, of a refused record the record's start (FORMAT 18.6)
 abbrev pub replayPlace : ReplayAnswer → ℕ
@@ -14,6 +14,9 @@ replayPlace Done = 0
 replayPlace (Unread why) = placeOf why .0
 replayPlace (Stopped why start) = start .0
 
--- the place, the series of the table, the orphans, and the records skipped
-abbrev pub replayOut : Replayed → List ℕ
-replayOut r = replayPlace (r .answer) ∷ r .series ∷ r .orphans ∷ r .skipped ∷ []
+-- the place, the series of the table, the orphans, the records skipped, and the good length: the
+-- records replayed and the place after the last (FORMAT 18.12)
+abbrev pub replayOut : GoodReplayed → List ℕ
+replayOut r =
+    replayPlace (r .result .answer) ∷ r .result .series ∷ r .result .orphans ∷ r .result .skipped ∷ r .good .records
+    ∷ r .good .offset .0 ∷ []

@@ -2,7 +2,10 @@
 -- To be believed. Assumes nothing.
 use mathlib.Core.List.{List, [], _∷_}
 use Prim.Native.Nat.{ℕ}
+use lib.ListN.{getD}
 use Rattle.wal_types.specs.Refusals.{numberOf, placeOf}
+use Rattle.segment_format.specs.declared.Good.{Good}
+use Rattle.segment_format.specs.Good.{good}
 use Rattle.segment_format.specs.declared.ReadAnswer.{ReadAnswer}
 use Rattle.segment_format.specs.declared.ReadAnswer.the-variants.{Record, End, Refused}
 use Rattle.segment_format.specs.declared.WriteAnswer.{WriteAnswer}
@@ -20,6 +23,13 @@ abbrev pub readOut : ReadAnswer → List ℕ
 readOut (Record start n next) = start .0 ∷ n ∷ next .0 ∷ []
 readOut End = 0 ∷ 0 ∷ 0 ∷ []
 readOut (Refused why) = placeOf why .0 ∷ 0 ∷ 0 ∷ []
+
+-- the good length in C (FORMAT 6.14): the number of records, then the offset
+abbrev pub goodOf : List ℕ → Good
+goodOf s = good (getD s 0 0) (getD s 1 0)
+
+abbrev pub goodOut : Good → List ℕ
+goodOut g = g .records ∷ g .offset .0 ∷ []
 
 -- 0 for a write that was done, else the status number (FORMAT 12.1)
 abbrev pub writeCode : WriteAnswer → ℕ

@@ -7,11 +7,13 @@ use body_format::CheckAnswer;
 use body_format::EntryAnswer;
 use body_format::EntryView;
 use body_format::StringAnswer;
+use segment_format::Good;
 use segment_format::ReadAnswer;
 use segment_format::WriteAnswer;
+use wal_types::Offset;
 ghost use mathlib.Core.Path.{_≡_};
 ghost use Rattle.body_format.specs.declared.EntryAnswer.the-variants.{Found as «EntryFound»};
-ghost use Rattle.depot_wal_results.specs.Segments.{readCode, readOut, writeCode, writeOut};
+ghost use Rattle.depot_wal_results.specs.Segments.{readCode, readOut, goodOf, writeCode, writeOut};
 ghost use Rattle.depot_wal_results.specs.Bodies.{addedCode, addedOut, checkCode, checkOut, entryCode, entryOut, stringCode, stringOut};
 
 // A read's answer.
@@ -36,6 +38,16 @@ pub fn read_result(answer: ReadAnswer, out: &mut [u64; 3]) -> u32
             *out = [at.0 as u64, 0, 0];
             wal_types::number(why)
         }
+    }
+}
+
+// The pair that a read is given (FORMAT 6.14).
+pub fn good_of(good: &[u64; 2]) -> Good
+    ensures { λ r. ⌜ r ≡ goodOf (now (good .entry)) ⌝ }
+{
+    Good {
+        records: good[0] as usize,
+        offset: Offset(good[1] as usize),
     }
 }
 

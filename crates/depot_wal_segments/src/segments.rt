@@ -1,10 +1,14 @@
 // The C calls that read and write one segment.
 ghost use mathlib.Core.Path.{_≡_};
-ghost use Rattle.segment_format.specs.Calls.{reader, writer};
+ghost use Rattle.segment_format.specs.Calls.{writer};
+ghost use Rattle.segment_format.specs.Good.{goodAfter, goodReader};
+ghost use Rattle.segment_format.specs.Laws.Counted.{Counts};
 ghost use Rattle.segment_format.specs.Sums.{crcSum, tableSum};
-ghost use Rattle.depot_wal_results.specs.Segments.{readCode, readOut, writeCode, writeOut};
+ghost use Rattle.depot_wal_results.specs.Segments.{readCode, readOut, goodOf, goodOut, writeCode, writeOut};
+use depot_wal_results::good_of;
 use depot_wal_results::read_result;
 use depot_wal_results::write_result;
+use segment_format::ReadAnswer;
 use wal_types::Offset;
 
 // Reads, and turns the answer into numbers, for the calls with a table and without. It is done here
@@ -15,18 +19,55 @@ fn read_to_out(
     segment: &[u8],
     place: usize,
     buffer: &mut [u8],
+    good: &mut [u64; 2],
     out: &mut [u64; 3],
 ) -> u32
     ensures { λ r. ⌜
-        (r ≡ readCode (reader (tableSum (now (table .entry))) (now (segment .entry)) place
-        (now (buffer .entry)) .answer))
-        × (now (out .exit) ≡ readOut
-        (reader (tableSum (now (table .entry))) (now (segment .entry)) place (now (buffer .entry)) .answer))
-        × (now (buffer .exit) ≡ reader (tableSum (now (table .entry))) (now (segment .entry)) place
-        (now (buffer .entry)) .buffer) ⌝ }
+        (r ≡ readCode (goodReader (tableSum (now (table .entry))) (now (segment .entry)) place (now (buffer .entry))
+        (goodOf (now (good .entry))) .read .answer))
+        × (now (out .exit) ≡ readOut (goodReader (tableSum (now (table .entry))) (now (segment .entry)) place (now (buffer .entry))
+        (goodOf (now (good .entry))) .read .answer))
+        × (now (good .exit) ≡ goodOut (goodReader (tableSum (now (table .entry))) (now (segment .entry)) place (now (buffer .entry))
+        (goodOf (now (good .entry))) .read .good))
+        × (now (buffer .exit) ≡ goodReader (tableSum (now (table .entry))) (now (segment .entry)) place (now (buffer .entry))
+        (goodOf (now (good .entry))) .buffer) ⌝ }
 {
-    let answer = segment_reader::read_with_table(&table[0..], &segment[0..], Offset(place), buffer);
+    let given = good_of(good);
+    let read = segment_reader::read_with_table(
+        &table[0..],
+        &segment[0..],
+        Offset(place),
+        buffer,
+        given,
+    );
+    let answer = read.answer;
+    count_read(answer, good);
     read_result(answer, out)
+}
+
+// The pair with this answer, in place: numbers kept in registers over the read would cost more.
+fn count_read(answer: ReadAnswer, good: &mut [u64; 2])
+    requires { ⌜ Counts answer (goodOf (now good)) ⌝ }
+    ensures { λ _. ⌜ now (good .exit) ≡ goodOut (goodAfter answer (goodOf (now (good .entry)))) ⌝ }
+{
+    let records = good[0];
+    let end = good[1];
+    match answer {
+        ReadAnswer::Record {
+            start: _,
+            length: _,
+            next,
+        } => {
+            let more = records + 1;
+            *good = [more, next.0 as u64];
+        }
+        ReadAnswer::End => {
+            *good = [records, end];
+        }
+        ReadAnswer::Refused(_) => {
+            *good = [records, end];
+        }
+    }
 }
 
 // Writes, likewise.
@@ -71,20 +112,27 @@ pub extern "C" fn depot_wal_write(
     write_to_out(&crc32c::NO_TABLE, segment, place, record, out)
 }
 
-// Reads the record at a place into the buffer (FORMAT 6).
+// Reads the record at a place into the buffer (FORMAT 6). `good` has the pair that the read before
+// handed back, and then the one with this answer (FORMAT 6.14).
 #[no_mangle]
 pub extern "C" fn depot_wal_read(
     segment: &[u8],
     place: usize,
     buffer: &mut [u8],
+    good: &mut [u64; 2],
     out: &mut [u64; 3],
 ) -> u32
     ensures { λ r. ⌜
-        (r ≡ readCode (reader crcSum (now (segment .entry)) place (now (buffer .entry)) .answer))
-        × (now (out .exit) ≡ readOut (reader crcSum (now (segment .entry)) place (now (buffer .entry)) .answer))
-        × (now (buffer .exit) ≡ reader crcSum (now (segment .entry)) place (now (buffer .entry)) .buffer) ⌝ }
+        (r ≡ readCode (goodReader crcSum (now (segment .entry)) place (now (buffer .entry))
+        (goodOf (now (good .entry))) .read .answer))
+        × (now (out .exit) ≡ readOut (goodReader crcSum (now (segment .entry)) place (now (buffer .entry))
+        (goodOf (now (good .entry))) .read .answer))
+        × (now (good .exit) ≡ goodOut (goodReader crcSum (now (segment .entry)) place (now (buffer .entry))
+        (goodOf (now (good .entry))) .read .good))
+        × (now (buffer .exit) ≡ goodReader crcSum (now (segment .entry)) place (now (buffer .entry))
+        (goodOf (now (good .entry))) .buffer) ⌝ }
 {
-    read_to_out(&crc32c::NO_TABLE, segment, place, buffer, out)
+    read_to_out(&crc32c::NO_TABLE, segment, place, buffer, good, out)
 }
 
 // `depot_wal_write` with the checksum by the caller's table.
@@ -114,15 +162,18 @@ pub extern "C" fn depot_wal_read_with_table(
     segment: &[u8],
     place: usize,
     buffer: &mut [u8],
+    good: &mut [u64; 2],
     out: &mut [u64; 3],
 ) -> u32
     ensures { λ r. ⌜
-        (r ≡ readCode (reader (tableSum (now (table .entry))) (now (segment .entry)) place
-        (now (buffer .entry)) .answer))
-        × (now (out .exit) ≡ readOut
-        (reader (tableSum (now (table .entry))) (now (segment .entry)) place (now (buffer .entry)) .answer))
-        × (now (buffer .exit) ≡ reader (tableSum (now (table .entry))) (now (segment .entry)) place
-        (now (buffer .entry)) .buffer) ⌝ }
+        (r ≡ readCode (goodReader (tableSum (now (table .entry))) (now (segment .entry)) place (now (buffer .entry))
+        (goodOf (now (good .entry))) .read .answer))
+        × (now (out .exit) ≡ readOut (goodReader (tableSum (now (table .entry))) (now (segment .entry)) place (now (buffer .entry))
+        (goodOf (now (good .entry))) .read .answer))
+        × (now (good .exit) ≡ goodOut (goodReader (tableSum (now (table .entry))) (now (segment .entry)) place (now (buffer .entry))
+        (goodOf (now (good .entry))) .read .good))
+        × (now (buffer .exit) ≡ goodReader (tableSum (now (table .entry))) (now (segment .entry)) place (now (buffer .entry))
+        (goodOf (now (good .entry))) .buffer) ⌝ }
 {
-    read_to_out(table, segment, place, buffer, out)
+    read_to_out(table, segment, place, buffer, good, out)
 }

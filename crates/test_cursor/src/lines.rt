@@ -1,6 +1,7 @@
 // The lines that the program prints.
 use print::field;
 use print::text;
+use segment_format::Good;
 use wal_types::Offset;
 use wal_types::Refusal;
 
@@ -15,11 +16,10 @@ pub(crate) fn yielded(start: Offset, length: usize, next: Offset) {
     field(start.0 as u64);
     field(length as u64);
     field(next.0 as u64);
-    text(b"\n");
 }
 
 pub(crate) fn ended() {
-    text(b"end\n");
+    text(b"end");
 }
 
 pub(crate) fn refused(why: Refusal) {
@@ -28,5 +28,12 @@ pub(crate) fn refused(why: Refusal) {
     field(n as u64);
     let place = wal_types::place(why);
     field(place.0 as u64);
+}
+
+// The good length, which every line ends with.
+pub(crate) fn good(good: Good) {
+    text(b" good");
+    field(good.records as u64);
+    field(good.offset.0 as u64);
     text(b"\n");
 }

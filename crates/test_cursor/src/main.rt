@@ -8,13 +8,15 @@
 //
 // For each reading it prints a line `segment N`, where N is the length in bytes, and then a line
 // for each of ten reads:
-//     record START LENGTH NEXT
-//     end
-//     refused NUMBER PLACE
+//     record START LENGTH NEXT good RECORDS OFFSET
+//     end good RECORDS OFFSET
+//     refused NUMBER PLACE good RECORDS OFFSET
 // All numbers are decimal, with one space before each. After the first read that gives no record
 // the others answer the same.
 mod lines;
 
+use segment_cursor::Spot;
+use segment_format::Good;
 use segment_format::ReadAnswer;
 use segment_format::WriteAnswer;
 use wal_types::Offset;
@@ -81,18 +83,25 @@ fn read_cut(segment: &[u8], length: usize, buffer: &mut [u8]) {
 
 fn read_records(segment: &[u8], buffer: &mut [u8]) {
     lines::opened(segment.len());
-    let mut place = Offset(0);
+    let mut spot = Spot {
+        place: Offset(0),
+        good: Good {
+            records: 0,
+            offset: Offset(0),
+        },
+    };
     let mut k = 0;
     while k < READS {
-        let step = segment_cursor::read_on(segment, place, buffer);
-        place = print_step(step);
+        let step = segment_cursor::read_on(segment, spot, buffer);
+        spot = print_step(step);
         k += 1;
     }
 }
 
-// Prints what a read answered, and returns the place for the next.
-fn print_step(step: segment_cursor::Advance) -> Offset {
-    let answer = step.answer;
+// Prints what a read answered and its good length, and returns where the next one is.
+fn print_step(step: segment_cursor::Advance) -> Spot {
+    let read = step.read;
+    let answer = read.answer;
     match answer {
         ReadAnswer::Record {
             start,
@@ -102,5 +111,7 @@ fn print_step(step: segment_cursor::Advance) -> Offset {
         ReadAnswer::End => lines::ended(),
         ReadAnswer::Refused(why) => lines::refused(why),
     }
-    step.place
+    let good = read.good;
+    lines::good(good);
+    step.spot
 }

@@ -4,6 +4,7 @@ ghost use mathlib.Core.Path.{_≡_};
 ghost use Prim.Native.Nat.{_<_};
 ghost use lib.ListN.{length};
 use numbers::wide;
+use segment_format::Good;
 use segment_format::ReadAnswer;
 use segment_format::WriteAnswer;
 use wal_types::Offset;
@@ -221,13 +222,23 @@ pub(crate) fn types() {
     type_line(0x04);
 }
 
+// The pair that a first read is given.
+fn none_yet() -> Good {
+    Good {
+        records: 0,
+        offset: Offset(0),
+    }
+}
+
 fn type_line(kind: u8) {
     let segment = [kind, 0, 0, 0, 0, 0, 0];
     let mut buffer = [0u8; 65536];
     print::text(b"type ");
     io::print_hex(1, kind as u64, 2);
     print::text(b" -> ");
-    let answer = segment_reader::read(&segment, Offset(0), &mut buffer);
+    let none = none_yet();
+    let read = segment_reader::read(&segment, Offset(0), &mut buffer, none);
+    let answer = read.answer;
     answer_line(answer);
 }
 
@@ -310,7 +321,10 @@ fn cut(slice: &[u8], count: usize, buffer: &mut [u8]) {
     if slice.len() < count {
         return;
     }
-    let answer = segment_reader::read(&slice[..count], Offset(0), buffer);
+    let none = none_yet();
+    let read = segment_reader::read(&slice[..count], Offset(0), buffer, none);
+    let answer = read.answer;
+    let good = read.good;
     cut_line(count, answer);
     match answer {
         ReadAnswer::Record {
@@ -318,7 +332,8 @@ fn cut(slice: &[u8], count: usize, buffer: &mut [u8]) {
             length: _,
             next,
         } => {
-            let then = segment_reader::read(&slice[..count], next, buffer);
+            let second = segment_reader::read(&slice[..count], next, buffer, good);
+            let then = second.answer;
             cut_line(count, then);
         }
         ReadAnswer::End => {}

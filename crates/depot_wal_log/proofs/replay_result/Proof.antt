@@ -6,17 +6,17 @@ use Rattle.depot_wal_log.proofs.replay_result.Statement.{statement}
 use Rattle.depot_wal_log.proofs.replay_result.Tie as tie
 
 returns : tie.Need-returns
-returns c = done-out (c .before .before .before .args .result) (c .before .enum-told .given .1)
+returns c = done-out (c .before .before .before .before .before .args .replayed) (c .before .enum-told .given .1)
 
 returns-2 : tie.Need-returns-2
 returns-2 c =
     let told = c .before .before .before .before .answer .given in
-    unread-out (c .before .before .before .before .before .before .args .result) (told .0 .0) (c .number .result) (c .before .before .place .result) (told .1) (c .number .ensures) (c .before .before .place .ensures)
+    unread-out (c .before .before .before .before .before .before .before .before .args .replayed) (told .0 .0) (c .number .result) (c .before .before .place .result) (told .1) (c .number .ensures) (c .before .before .place .ensures)
 
 returns-3 : tie.Need-returns-3
 returns-3 c =
     let told = c .before .before .before .answer2 .given in
-    stopped-out (c .before .before .before .before .before .args .result) (told .0 .0) (told .0 .1 .0) (c .number2 .result) (told .1) (c .number2 .ensures)
+    stopped-out (c .before .before .before .before .before .before .before .args .replayed) (told .0 .0) (told .0 .1 .0) (c .number2 .result) (told .1) (c .number2 .ensures)
 
 pub replay-result-spec : {M : Type 1} → statement M
 replay-result-spec =

@@ -8,10 +8,10 @@ use Rattle.test_cursor.proofs.read_records.Statement.{statement}
 use Rattle.test_cursor.proofs.read_records.Tie as tie
 
 abbrev Inv-loop : tie.InvT-loop
-Inv-loop segment buffer₀ place₀ k₀ buffer place k = length buffer ≡ length buffer₀
+Inv-loop segment buffer₀ spot₀ k₀ buffer spot k = length buffer ≡ length buffer₀
 
 abbrev μ-loop : tie.MeasureT-loop
-μ-loop segment buffer₀ place₀ k₀ buffer place k = 10 - k
+μ-loop segment buffer₀ spot₀ k₀ buffer spot k = 10 - k
 
 opened-requires : tie.Need-opened-requires Inv-loop μ-loop
 opened-requires c κs = search needs

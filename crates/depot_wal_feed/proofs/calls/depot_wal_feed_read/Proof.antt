@@ -11,9 +11,10 @@ use Rattle.depot_wal_feed.proofs.calls.depot_wal_feed_read.Tie as tie
 
 returns : tie.Need-returns
 returns c =
-    let a = c .before .before .before .before .before .before .before .before .before .before .before .before .before .before .before .before .args in
+    let a = c .before .before .before .before .before .before .before .before .before .before .before .before .before .before .before .before .before .args in
     let e = read-told crcSum (now (a .state)) (now (a .page)) (now (a .buffer)) _ _ _
-    (sym (c .before .before .before .before .before .before .before .before .before .before .before .before .is-known .ensures) ∙ c .before .before .before .before .before .before .before .before .before .before .before .if1 .taken) (c .before .before .before .before .before .before .before .before .before .state-of .ensures) (c .before .before .before .before .before .before .before .read .ensures) in (
+    (sym (c .before .before .before .before .before .before .before .before .before .before .before .before .before .is-known .ensures) ∙ c .before .before .before .before .before .before .before .before .before .before .before .before .if1 .taken)
+    (c .before .before .before .before .before .before .before .before .before .before .state-of .ensures) (c .before .before .before .before .before .before .before .before .read .ensures) in (
       c .before .before .read-result .ensures .0 ∙ ap (λ (x : ReadCall). x .code) e,
       c .before .before .read-result .ensures .1 ∙ ap (λ (x : ReadCall). x .out) e,
       c .store-place .ensures ∙ ap (λ (x : ReadCall). x .state) e,
@@ -22,8 +23,8 @@ returns c =
 
 returns-2 : tie.Need-returns-2
 returns-2 c =
-    let a = c .before .before .before .before .before .before .args in
-    let e = read-unknown crcSum (now (a .state)) (now (a .page)) (now (a .buffer)) (sym (c .before .before .is-known .ensures) ∙ c .before .if1 .left) in (
+    let a = c .before .before .before .before .before .before .before .before .args in
+    let e = read-unknown crcSum (now (a .state)) (now (a .page)) (now (a .buffer)) (sym (c .before .before .before .before .is-known .ensures) ∙ c .before .before .before .if1 .left) in (
       ap (λ (x : ReadCall). x .code) e,
       ap (λ (x : ReadCall). x .out) e,
       ap (λ (x : ReadCall). x .state) e,
@@ -41,4 +42,6 @@ depot-wal-feed-read-spec =
     (λ c κs. search needs)
     (λ c. search needs)
     returns
+    (λ c. search needs)
+    (λ c. search needs)
     returns-2)

@@ -12,7 +12,9 @@ returns c = rw (c .before .enum-told .given .1) (refl, refl)
 
 returns-2 : tie.Need-returns-2
 returns-2 c =
-    rw (c .before .before .before .before .answer .given .1) (c .number .ensures, ap (λ (o : Offset). o .0 ∷ []) (c .before .before .place .ensures))
+    let g = c .before .before .before .before .before .before .args .good in
+    rw (c .before .before .before .before .answer .given .1)
+    (c .number .ensures, ap (λ (o : Offset). o .0 ∷ g .records ∷ g .offset .0 ∷ []) (c .before .before .place .ensures))
 
 pub page-result-spec : {M : Type 1} → statement M
 page-result-spec =

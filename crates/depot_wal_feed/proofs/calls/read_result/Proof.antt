@@ -18,7 +18,9 @@ returns-3 c = rw (c .before .enum-told2 .given .1) (refl, refl)
 
 returns-4 : tie.Need-returns-4
 returns-4 c =
-    rw (c .before .before .before .before .answer2 .given .1) (c .number .ensures, ap (λ (o : Offset). o .0 ∷ 0 ∷ 0 ∷ []) (c .before .before .place .ensures))
+    let g = c .before .before .before .before .before .before .args .good in
+    rw (c .before .before .before .before .answer2 .given .1)
+    (c .number .ensures, ap (λ (o : Offset). o .0 ∷ 0 ∷ 0 ∷ g .records ∷ g .offset .0 ∷ []) (c .before .before .place .ensures))
 
 pub read-result-spec : {M : Type 1} → statement M
 read-result-spec =

@@ -5,7 +5,7 @@ use Rattle.depot_wal_feed.proofs.numbers.store_place.Statement.{stateme
 use Rattle.depot_wal_feed.proofs.numbers.store_place.Tie as tie
 
 returns : tie.Need-returns
-returns c = rw (c .before .marks-of .ensures, c .standing-place .ensures)
+returns c = rw (c .before .before .marks-of .ensures, c .before .standing-place .ensures)
 
 pub store-place-spec : {M : Type 1} → statement M
 store-place-spec =
@@ -17,5 +17,7 @@ store-place-spec =
     (λ c. search needs)
     (λ c. search needs)
     (λ c κs. search needs)
+    (λ c. search needs)
+    (λ c. search needs)
     (λ c. search needs)
     returns)

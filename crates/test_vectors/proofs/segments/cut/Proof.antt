@@ -11,6 +11,9 @@ use Rattle.test_vectors.proofs.segments.cut.Tie as tie
 returns : tie.Need-returns
 returns c = search needs
 
+none-yet-requires : tie.Need-none-yet-requires
+none-yet-requires c κs = search needs
+
 slice-aggregate-read : tie.Need-slice-aggregate-read
 slice-aggregate-read c = sym (length-take-le _ _ (omega arith))
 
@@ -61,6 +64,7 @@ cut-spec =
     tie.close
     (tie.spec
     returns
+    none-yet-requires
     slice-aggregate-read
     read-requires
     cut-line-requires
