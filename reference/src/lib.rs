@@ -1,7 +1,7 @@
 //! The second program: the format (docs/FORMAT.md) in plain Rust, written from the customer's rules
 //! alone and never from the product's code, so that the product can be compared with it. Clear
-//! before fast; the checksum, the bodies, the feed and replay are also made fast, since the
-//! product's speed is measured against them.
+//! before fast; the checksum, the bodies, the feed, replay and the index are also made fast, since
+//! the product's speed is measured against them.
 
 #![forbid(unsafe_code)]
 
@@ -10,6 +10,7 @@ pub mod crc32c;
 pub mod damage;
 pub mod feed;
 pub mod histogram;
+pub mod index;
 pub mod listing;
 pub mod refusal;
 pub mod replay;

@@ -32,6 +32,8 @@ pub const WRONG_KIND: u32 = 26;
 pub const BAD_RANGE: u32 = 27;
 /// Document 02 [3]: a record brings a series more than the table has rows.
 pub const TABLE_FULL: u32 = 28;
+/// Document 02 [9]: not the index of its segment.
+pub const BAD_INDEX: u32 = 29;
 
 /// `Err` with the number and the place.
 pub fn refuse<T>(number: u32, place: usize) -> Result<T, Refusal> {
