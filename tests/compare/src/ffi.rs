@@ -5,6 +5,7 @@
 pub mod bare;
 mod bodies;
 pub mod feed;
+pub mod index;
 pub mod replay;
 
 pub use bodies::{

@@ -6,6 +6,7 @@ pub mod feed;
 pub mod ffi;
 pub mod fixtures;
 pub mod generate;
+pub mod index;
 pub mod replay;
 pub mod rng;
 pub mod rows;

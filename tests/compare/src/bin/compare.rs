@@ -2,7 +2,7 @@
 //! on the real segments of a folder; nonzero on the first difference, with the seed and the case.
 
 use compare::rng::Rng;
-use compare::{bodies, checksums, feed, fixtures, replay, rows, segments, Group, Outcome};
+use compare::{bodies, checksums, feed, fixtures, index, replay, rows, segments, Group, Outcome};
 use std::io::Write;
 use std::path::Path;
 use std::process::ExitCode;
@@ -56,6 +56,7 @@ fn groups() -> Vec<Group> {
         feed::groups(),
         bodies::groups(),
         replay::groups(),
+        index::groups(),
     ]
     .concat()
 }
@@ -90,5 +91,6 @@ fn compare_file(rng: &mut Rng, bytes: &[u8]) -> Outcome {
     let feeds = feed::compare_file(rng, bytes)?;
     let bodies = bodies::compare_file(rng, bytes)?;
     let replays = replay::compare_file(rng, bytes)?;
-    Ok(sums + reads + feeds + bodies + replays)
+    let indexes = index::compare_file(rng, bytes)?;
+    Ok(sums + reads + feeds + bodies + replays + indexes)
 }

@@ -5,6 +5,7 @@ use super::bodies::{
     depot_wal_add_sample, depot_wal_body_check, depot_wal_body_start, depot_wal_entry_at,
 };
 use super::feed::{depot_wal_feed_page, depot_wal_feed_read, depot_wal_feed_start, State as Feed};
+use super::index::depot_wal_index_build;
 use super::replay::{depot_wal_replay, SeriesTable, OUT_LEN as REPLAY_OUT};
 use super::*;
 use reference::body::{Sample, State};
@@ -107,6 +108,15 @@ pub fn replay(
     let (room, room_len) = (buffer.as_mut_ptr(), buffer.len());
     let (table, out) = (table.as_mut_ptr(), out.as_mut_ptr());
     unsafe { depot_wal_replay(bytes, length, room, room_len, table, out) }
+}
+
+// ---- The index ----
+
+#[inline]
+pub fn index_build(segment: &[u8], index: &mut [u8], out: &mut [u64; 2]) -> u32 {
+    let (length, bytes) = (segment.len(), segment.as_ptr());
+    let (room, room_len) = (index.as_mut_ptr(), index.len());
+    unsafe { depot_wal_index_build(bytes, length, room, room_len, out.as_mut_ptr()) }
 }
 
 // ---- Bodies ----

@@ -69,7 +69,7 @@ fn by_feed(full: &mut Full) {
     assert_eq!((last, count), (END, full.count), "a record was not read");
 }
 
-fn by_slice(full: &mut Full) {
+pub fn by_slice(full: &mut Full) {
     let mut good = [0, 0];
     let mut out = [0; 3];
     let mut count = 0;

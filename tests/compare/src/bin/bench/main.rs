@@ -7,6 +7,7 @@ mod bodies;
 mod checksum;
 mod feed;
 mod hardware;
+mod index;
 mod list;
 mod records;
 mod replay;
@@ -37,6 +38,7 @@ fn main() {
         checksum::bench(),
         records::bench(&mut segment),
         feed::bench(&mut segment),
+        index::bench(&mut segment),
         list::bench(&programs(&words), &segment),
         bodies::bench(),
         replay::bench(),

@@ -1,0 +1,56 @@
+//! The index's calls.
+
+use super::*;
+
+extern "C" {
+    pub(super) fn depot_wal_index_build(
+        segment: *const u8,
+        segment_len: usize,
+        index: *mut u8,
+        index_len: usize,
+        out: *mut u64,
+    ) -> u32;
+    fn depot_wal_index_check(
+        segment: *const u8,
+        segment_len: usize,
+        index: *const u8,
+        index_len: usize,
+        out: *mut u64,
+    ) -> u32;
+    fn depot_wal_index_extend(
+        segment: *const u8,
+        segment_len: usize,
+        index: *mut u8,
+        index_len: usize,
+        used: usize,
+        out: *mut u64,
+    ) -> u32;
+    fn depot_wal_index_at(index: *const u8, index_len: usize, record: u64, out: *mut u64) -> u32;
+}
+
+/// Bytes of the index.
+pub fn build(segment: &[u8], index: &mut [u8]) -> Answer<2> {
+    let (length, room) = (segment.len(), index.len());
+    let (segment, index) = (pointer(segment), pointer_mut(index));
+    answer(|out| unsafe { depot_wal_index_build(segment, length, index, room, out) })
+}
+
+/// The records that it lists.
+pub fn check(segment: &[u8], index: &[u8]) -> Answer<1> {
+    let (length, room) = (segment.len(), index.len());
+    let (segment, index) = (pointer(segment), pointer(index));
+    answer(|out| unsafe { depot_wal_index_check(segment, length, index, room, out) })
+}
+
+/// Bytes of the grown index.
+pub fn extend(segment: &[u8], index: &mut [u8], used: usize) -> Answer<2> {
+    let (length, room) = (segment.len(), index.len());
+    let (segment, index) = (pointer(segment), pointer_mut(index));
+    answer(|out| unsafe { depot_wal_index_extend(segment, length, index, room, used, out) })
+}
+
+/// Start and length.
+pub fn at(index: &[u8], record: u64) -> Answer<2> {
+    let (room, index) = (index.len(), pointer(index));
+    answer(|out| unsafe { depot_wal_index_at(index, room, record, out) })
+}
