@@ -2,9 +2,10 @@
  * proved).
  *
  * A segment is a caller-owned buffer. Records of 1 to 65,536 bytes are written into it and read
- * back, seven types of record bodies are encoded and decoded, and a log is replayed into a table of
- * what each series had last. docs/FORMAT.md draws the bytes; examples/switch.c is a whole program.
- * The archive is for Linux on x86-64; beside the caller's memory it needs `memset` and `memcpy`.
+ * back, seven types of record bodies are encoded and decoded, a log is replayed into a table of
+ * what each series had last, and an index beside a segment tells where each record is.
+ * docs/FORMAT.md draws the bytes; examples/switch.c is a whole program. The archive is for Linux on
+ * x86-64; beside the caller's memory it needs `memset` and `memcpy`.
  *
  * An example (`make test` compiles and runs it)
  *
@@ -49,8 +50,8 @@
  *   A call that reads: the fields as the struct names them. On an error the first field is the
  *   place of the error and the others are 0; at an end, and where more is asked for, all are 0.
  *   A call that writes: the first field, `next` or `used`, is what to pass to the next call. On an
- *   error that is the value which this call was given (0 when starting a body), so always go on
- *   with it. `error_at` is the place of the error, else 0.
+ *   error that is the value which this call was given (0 when starting a body or building an
+ *   index), so always go on with it. `error_at` is the place of the error, else 0.
  *   A replay: `error_at` is the place of the error, else 0; the others always count.
  *   `good`, of a feed and of a replay, is the good length so far, whatever is returned (see there).
  *   A place is an offset in the segment or in the body.
@@ -74,8 +75,8 @@
  *   - It allocates nothing and keeps nothing between calls. So calls may run at the same time where
  *     none of them writes memory that another one uses: a table, or a segment that is only read,
  *     may be shared.
- *   - Seen in the machine code, not proved: every call takes less than 5 KiB of stack, a replay
- *     less than 25 KiB, and none recurses.
+ *   - Seen in the machine code, not proved: every call takes less than 5 KiB of stack, one on an
+ *     index less than 14 KiB, a replay less than 25 KiB, and none recurses.
  *
  * From memory to the medium
  *   A call works on memory, and a write stores its bytes there in no promised order. The caller
@@ -137,6 +138,8 @@ extern "C" {
 #define DEPOT_WAL_FRAGMENT_MAX 32761u     /* a fragment's data at most */
 #define DEPOT_WAL_RECORD_MAX   65536u     /* a record at most, a read's buffer at least */
 #define DEPOT_WAL_SEGMENT_MAX  134217728u /* a segment at most */
+#define DEPOT_WAL_INDEX_HEAD   12u        /* an index without records */
+#define DEPOT_WAL_INDEX_ROW    8u         /* in an index, for each record */
 
 #define DEPOT_WAL_TABLE_LEN  2048 /* numbers in the checksum's table */
 #define DEPOT_WAL_FEED_LEN   16   /* numbers in the state of a page feed */
@@ -183,6 +186,7 @@ enum {
     DEPOT_WAL_WRONG_KIND = 26,   /* an entry for, or a histogram in, a body of another type */
     DEPOT_WAL_BAD_RANGE = 27,    /* a number of a histogram that does not fit 32 bits */
     DEPOT_WAL_TABLE_FULL = 28,   /* a log with more than 256 series */
+    DEPOT_WAL_BAD_INDEX = 29,    /* not the index of this segment */
     DEPOT_WAL_END = 200,         /* the end of the log or of the body; no error */
     DEPOT_WAL_MORE = 201         /* the next page is asked for; no error */
 };
@@ -214,6 +218,7 @@ static inline const char *depot_wal_status_text(depot_wal_status status)
     case DEPOT_WAL_WRONG_KIND: return "entry for, or histogram in, a body of another type";
     case DEPOT_WAL_BAD_RANGE: return "number of a histogram above 32 bits";
     case DEPOT_WAL_TABLE_FULL: return "more series than the table holds";
+    case DEPOT_WAL_BAD_INDEX: return "index that is not this segment's";
     case DEPOT_WAL_END: return "nothing more to read";
     case DEPOT_WAL_MORE: return "the next page is asked for";
     default: return "unknown status";
@@ -263,7 +268,7 @@ struct depot_wal_feed_record {
 
 /* Of the check of a body. */
 struct depot_wal_count {
-    uint64_t count; /* how many entries it has; on an error: the place of the error */
+    uint64_t count; /* how many entries it has, or records are listed; on an error: its place */
 };
 
 /* An entry of a body. A field that the type lacks is 0. */
@@ -340,6 +345,18 @@ struct depot_wal_series {
     uint64_t deleted; /* 1 if a tombstone that came after that row covers its time, else 0 */
 };
 
+/* Of building or extending an index. */
+struct depot_wal_indexed {
+    uint64_t used;     /* the bytes of the index; on an error: as many as the call was given */
+    uint64_t error_at; /* the place of the error, else 0 */
+};
+
+/* A row of an index. */
+struct depot_wal_row {
+    uint64_t start;  /* the start of the record; on an error: the place of the error */
+    uint64_t length; /* its bytes */
+};
+
 /* The library writes each of them as an array of uint64_t, so none may be padded. This is a check
  * at compile time. */
 typedef char depot_wal_layout[
@@ -350,7 +367,8 @@ typedef char depot_wal_layout[
     sizeof(struct depot_wal_entry) == 8 * 8 && sizeof(struct depot_wal_string) == 2 * 8 &&
     sizeof(struct depot_wal_list) == 2 * 8 && sizeof(struct depot_wal_histogram) == 18 * 8 &&
     sizeof(struct depot_wal_span) == 3 * 8 && sizeof(struct depot_wal_bucket) == 2 * 8 &&
-    sizeof(struct depot_wal_replayed) == 6 * 8 && sizeof(struct depot_wal_series) == 5 * 8
+    sizeof(struct depot_wal_replayed) == 6 * 8 && sizeof(struct depot_wal_series) == 5 * 8 &&
+    sizeof(struct depot_wal_indexed) == 2 * 8 && sizeof(struct depot_wal_row) == 2 * 8
         ? 1 : -1];
 
 /* ---- the segment ---- */
@@ -697,6 +715,66 @@ depot_wal_status depot_wal_replay_strict(const uint8_t *segment, size_t segment_
                                          uint8_t *buffer, size_t buffer_len,
                                          struct depot_wal_series table[DEPOT_WAL_SERIES_MAX],
                                          struct depot_wal_replayed *out);
+
+/* ---- the index beside a segment ---- */
+
+/* To show record 40,000 of a segment without reading 39,999 others, keep an index in a file beside
+ * it: DEPOT_WAL_INDEX_HEAD bytes, and DEPOT_WAL_INDEX_ROW with start and length for each record.
+ *   - A technician's tool builds it once, or checks one that is there, looks up the record, and
+ *     reads the segment at that start.
+ *   - The box extends it when the segment has grown. The index is checked, which reads the bytes
+ *     that it covers, and then the reading goes on at the last record listed. Write the new index
+ *     to the medium before forgetting the old one: a torn index is refused, and must be built
+ *     again.
+ * The index covers the bytes of the segment that it was built from, and stays right when the
+ * segment grows. These calls copy no record, so they need no record buffer. Bodies are not looked
+ * at: a record of an unknown type is listed as any other. */
+
+/* Builds the index of a segment at the front of `index`. It lists the records that come out of a
+ * reading from the start, before the end or an error, and covers all `segment_len` bytes. An index
+ * is never longer than DEPOT_WAL_INDEX_HEAD + segment_len; where `index_len` is at least 12 more
+ * than 8 * (segment_len / 7), the segment is read once, else twice.
+ * Result: the bytes of the index.
+ * Errors, with error_at; `used` is 0:
+ *   DEPOT_WAL_BAD_BUFFER  0  the segment is above DEPOT_WAL_SEGMENT_MAX
+ *   DEPOT_WAL_NO_ROOM     0  the index does not fit into `index_len`
+ * Changes: `used` bytes of `index`, and *out. */
+depot_wal_status depot_wal_index_build(const uint8_t *segment, size_t segment_len,
+                                       uint8_t *index, size_t index_len,
+                                       struct depot_wal_indexed *out);
+
+/* Checks an index against its segment, which may have grown since. It is right exactly if it equals
+ * the one built from the bytes that it covers.
+ * Result: the number of records that it lists.
+ * Errors, with the place in `count`:
+ *   DEPOT_WAL_BAD_BUFFER  0  the segment is above DEPOT_WAL_SEGMENT_MAX
+ *   DEPOT_WAL_BAD_INDEX   0  it covers more than the segment, or is not the index of those bytes
+ * Changes: *out. */
+depot_wal_status depot_wal_index_check(const uint8_t *segment, size_t segment_len,
+                                       const uint8_t *index, size_t index_len,
+                                       struct depot_wal_count *out);
+
+/* Extends the index in the first `used` bytes of `index` to all of the segment. It is checked
+ * first, and then equals the one that depot_wal_index_build gives.
+ * Result: the bytes of the index.
+ * Errors, with error_at; `used` is the value given:
+ *   DEPOT_WAL_BAD_BUFFER  0  the segment is above DEPOT_WAL_SEGMENT_MAX
+ *   DEPOT_WAL_BAD_INDEX   0  `used` is above `index_len`, or as depot_wal_index_check
+ *   DEPOT_WAL_NO_ROOM     0  the new index does not fit into `index_len`
+ * Changes: bytes of `index` before the new `used`, and *out. */
+depot_wal_status depot_wal_index_extend(const uint8_t *segment, size_t segment_len,
+                                        uint8_t *index, size_t index_len, size_t used,
+                                        struct depot_wal_indexed *out);
+
+/* Looks up a record by its number, counted from 0, in an index that was built or checked here. It
+ * looks at nothing but the head, the length and that row.
+ * Result: start and length of the record; depot_wal_read at that start gives it.
+ * Errors, with the place in `start`:
+ *   DEPOT_WAL_BAD_INDEX  0  the bytes do not have the layout of an index
+ *   DEPOT_WAL_BAD_PLACE  0  the index does not list that many records
+ * Changes: *out. */
+depot_wal_status depot_wal_index_at(const uint8_t *index, size_t index_len, uint64_t record,
+                                    struct depot_wal_row *out);
 
 #ifdef __cplusplus
 }

@@ -52,6 +52,8 @@ union result {
     struct depot_wal_span span;
     struct depot_wal_bucket bucket;
     struct depot_wal_replayed replayed;
+    struct depot_wal_indexed indexed;
+    struct depot_wal_row row;
 };
 static union result guarded[3], *const out = &guarded[1];
 enum { PATTERN = 0xA5 };
@@ -80,6 +82,8 @@ static int gives(depot_wal_status got, depot_wal_status status, const void *want
     &(struct depot_wal_histogram){__VA_ARGS__}, sizeof(struct depot_wal_histogram)
 #define SPAN(...) &(struct depot_wal_span){__VA_ARGS__}, sizeof(struct depot_wal_span)
 #define BUCKET(...) &(struct depot_wal_bucket){__VA_ARGS__}, sizeof(struct depot_wal_bucket)
+#define INDEXED(...) &(struct depot_wal_indexed){__VA_ARGS__}, sizeof(struct depot_wal_indexed)
+#define ROW(...) &(struct depot_wal_row){__VA_ARGS__}, sizeof(struct depot_wal_row)
 #define REPLAYED(...) &(struct depot_wal_replayed){__VA_ARGS__}, sizeof(struct depot_wal_replayed)
 
 /* Writes bytes given as text in hexadecimal; blanks do not matter. Returns how many. */
@@ -166,6 +170,10 @@ static void layouts(void)
     FIELD(depot_wal_replayed, 3, skipped);
     FIELD(depot_wal_replayed, 4, good.records);
     FIELD(depot_wal_replayed, 5, good.offset);
+    FIELD(depot_wal_indexed, 0, used);
+    FIELD(depot_wal_indexed, 1, error_at);
+    FIELD(depot_wal_row, 0, start);
+    FIELD(depot_wal_row, 1, length);
     FIELD(depot_wal_series, 0, id);
     FIELD(depot_wal_series, 1, rows);
     FIELD(depot_wal_series, 2, time);
@@ -178,9 +186,9 @@ static void layouts(void)
 static void texts(void)
 {
     static const depot_wal_status known[] = {0,  1,  2,  3,  4,  5,  6,  7,  8,  9,  10,
-                                             11, 12, 13, 20, 21, 22, 23, 24, 25, 26, 27, 28, 200,
-                                             201};
-    static const depot_wal_status unknown[] = {14, 19, 29, 199, 202, UINT32_MAX};
+                                             11, 12, 13, 20, 21, 22, 23, 24, 25, 26, 27, 28, 29,
+                                             200, 201};
+    static const depot_wal_status unknown[] = {14, 19, 30, 199, 202, UINT32_MAX};
     for (size_t i = 0; i < sizeof known / sizeof *known; i++) {
         const char *text = depot_wal_status_text(known[i]);
         int own = strcmp(text, "unknown status") != 0;
@@ -1796,6 +1804,142 @@ static void replay_errors(void)
     CHECK(all(buffer, sizeof buffer, 0x5C));
 }
 
+/* ---- the index ---- */
+
+static uint8_t index_file[64];
+
+/* Building gives this index and leaves the rest of the buffer; checking accepts it. */
+static void indexes(int line, size_t len, size_t records, const char *text)
+{
+    size_t n = DEPOT_WAL_INDEX_HEAD + DEPOT_WAL_INDEX_ROW * records;
+    memset(index_file, 0x5C, sizeof index_file);
+    check(line, GIVES(depot_wal_index_build(segment, len, index_file, n, &out->indexed), DONE,
+                      INDEXED(.used = n)), "built");
+    check(line, same(index_file, n, text), "its bytes");
+    check(line, all(index_file + n, sizeof index_file - n, 0x5C), "the rest");
+    check(line, GIVES(depot_wal_index_check(segment, len, index_file, n, &out->count), DONE,
+                      COUNT(.count = records)), "checked");
+    check(line, GIVES(depot_wal_index_build(segment, len, index_file, n - 1, &out->indexed),
+                      DEPOT_WAL_NO_ROOM, INDEXED(.used = 0)), "a byte too short");
+    check(line, same(index_file, n, text), "unchanged");
+}
+
+/* The index of the first n bytes is not accepted, and not extended. */
+static void index_refused(int line, size_t len, size_t n)
+{
+    uint8_t before[sizeof index_file];
+    memcpy(before, index_file, sizeof before);
+    check(line, GIVES(depot_wal_index_check(segment, len, index_file, n, &out->count),
+                      DEPOT_WAL_BAD_INDEX, COUNT(.count = 0)), "not accepted");
+    check(line, GIVES(depot_wal_index_extend(segment, len, index_file, n, n, &out->indexed),
+                      DEPOT_WAL_BAD_INDEX, INDEXED(.used = n)), "not extended");
+    check(line, memcmp(before, index_file, sizeof before) == 0, "unchanged");
+}
+
+/* Three records: 10 bytes at 0, one byte at 17, two at 25. */
+static void three_records(void)
+{
+    static const size_t lengths[] = {10, 1, 2}, places[] = {0, 17, 25};
+    memset(segment, 0, sizeof segment);
+    memset(record, 0x42, sizeof record);
+    for (int i = 0; i < 3; i++)
+        CHECK(GIVES(depot_wal_write(segment, PAGE, places[i], record, lengths[i], &out->written),
+                    DONE, WRITTEN(.next = places[i] + 7 + lengths[i])));
+}
+
+/* Built, torn, grown and extended. */
+static void index_built(void)
+{
+    three_records();
+    indexes(__LINE__, 0, 0, "00000000 0000000C 00000000");
+    indexes(__LINE__, 16, 0, "00000000 0000000C 00000010"); /* the first record is torn */
+    indexes(__LINE__, 17, 1, "00000001 0000000C 00000011 00000000 0000000A");
+    indexes(__LINE__, 34, 3, "00000003 0000000C 00000022 00000000 0000000A 00000011 00000001"
+                             "00000019 00000002");
+    /* the zeros to the page's end are covered too */
+    indexes(__LINE__, PAGE, 3, "00000003 0000000C 00008000 00000000 0000000A 00000011 00000001"
+                               "00000019 00000002");
+    segment[32] ^= 1; /* the third record is corrupt, and not listed */
+    indexes(__LINE__, 34, 2, "00000002 0000000C 00000022 00000000 0000000A 00000011 00000001");
+    segment[32] ^= 1;
+
+    /* the index of 26 bytes, in which the third record is torn, extended to all of them */
+    const char *whole = "00000003 0000000C 00000022 00000000 0000000A 00000011 00000001"
+                        "00000019 00000002";
+    indexes(__LINE__, 26, 2, "00000002 0000000C 0000001A 00000000 0000000A 00000011 00000001");
+    CHECK(GIVES(depot_wal_index_check(segment, 34, index_file, 28, &out->count), DONE,
+                COUNT(.count = 2)));
+    CHECK(GIVES(depot_wal_index_extend(segment, 34, index_file, 35, 28, &out->indexed),
+                DEPOT_WAL_NO_ROOM, INDEXED(.used = 28)));
+    CHECK(same(index_file, 28, "00000002 0000000C 0000001A 00000000 0000000A 00000011 00000001"));
+    CHECK(GIVES(depot_wal_index_extend(segment, 34, index_file, sizeof index_file, 28,
+                                       &out->indexed), DONE, INDEXED(.used = 36)));
+    CHECK(same(index_file, 36, whole));
+    CHECK(all(index_file + 36, sizeof index_file - 36, 0x5C));
+    /* once more, with nothing new; and an empty one */
+    CHECK(GIVES(depot_wal_index_extend(segment, 34, index_file, 36, 36, &out->indexed), DONE,
+                INDEXED(.used = 36)));
+    CHECK(same(index_file, 36, whole));
+    indexes(__LINE__, 5, 0, "00000000 0000000C 00000005");
+    CHECK(GIVES(depot_wal_index_extend(segment, 34, index_file, 64, 12, &out->indexed), DONE,
+                INDEXED(.used = 36)));
+    CHECK(same(index_file, 36, whole));
+}
+
+/* Every byte of an index matters, and its length; and so does every byte that it covers. */
+static void index_damaged(void)
+{
+    three_records();
+    indexes(__LINE__, 34, 3, "00000003 0000000C 00000022 00000000 0000000A 00000011 00000001"
+                             "00000019 00000002");
+    for (size_t i = 0; i < 36; i++) {
+        index_file[i] ^= 1;
+        index_refused(__LINE__, 34, 36);
+        index_file[i] ^= 1;
+    }
+    index_refused(__LINE__, 33, 36); /* covers more than the segment */
+    index_refused(__LINE__, 34, 35);
+    index_refused(__LINE__, 34, 37);
+    index_refused(__LINE__, 34, 11);
+    index_refused(__LINE__, 34, 0);
+    segment[0] = 2;
+    index_refused(__LINE__, 34, 36);
+    segment[0] = 1;
+    CHECK(GIVES(depot_wal_index_extend(segment, 34, index_file, 36, 37, &out->indexed),
+                DEPOT_WAL_BAD_INDEX, INDEXED(.used = 37)));
+    CHECK(GIVES(depot_wal_index_build(huge, LIMIT + 1, index_file, 12, &out->indexed),
+                DEPOT_WAL_BAD_BUFFER, INDEXED(.used = 0)));
+    CHECK(GIVES(depot_wal_index_check(huge, LIMIT + 1, index_file, 11, &out->count),
+                DEPOT_WAL_BAD_BUFFER, COUNT(.count = 0)));
+    CHECK(GIVES(depot_wal_index_extend(huge, LIMIT + 1, index_file, 36, 37, &out->indexed),
+                DEPOT_WAL_BAD_BUFFER, INDEXED(.used = 37)));
+    CHECK(GIVES(depot_wal_index_check(segment, 34, NULL, 0, &out->count), DEPOT_WAL_BAD_INDEX,
+                COUNT(.count = 0)));
+}
+
+/* A record by its number, and read at the start that the index gives. */
+static void index_looked_up(void)
+{
+    three_records();
+    indexes(__LINE__, 34, 3, "00000003 0000000C 00000022 00000000 0000000A 00000011 00000001"
+                             "00000019 00000002");
+    CHECK(GIVES(depot_wal_index_at(index_file, 36, 0, &out->row), DONE, ROW(.length = 10)));
+    CHECK(GIVES(depot_wal_index_at(index_file, 36, 2, &out->row), DONE,
+                ROW(.start = 25, .length = 2)));
+    reads(__LINE__, 34, 25, 25, 2, 34);
+    CHECK(GIVES(depot_wal_index_at(index_file, 36, 3, &out->row), DEPOT_WAL_BAD_PLACE,
+                ROW(.start = 0)));
+    CHECK(GIVES(depot_wal_index_at(index_file, 36, TOP, &out->row), DEPOT_WAL_BAD_PLACE,
+                ROW(.start = 0)));
+    CHECK(GIVES(depot_wal_index_at(index_file, 35, 0, &out->row), DEPOT_WAL_BAD_INDEX,
+                ROW(.start = 0)));
+    CHECK(GIVES(depot_wal_index_at(index_file, 11, 0, &out->row), DEPOT_WAL_BAD_INDEX,
+                ROW(.start = 0)));
+    index_file[7] = 13;
+    CHECK(GIVES(depot_wal_index_at(index_file, 36, 0, &out->row), DEPOT_WAL_BAD_INDEX,
+                ROW(.start = 0)));
+}
+
 int main(int argc, char **argv)
 {
     layouts();
@@ -1839,6 +1983,9 @@ int main(int argc, char **argv)
     replayed_limit();
     replayed_unknown();
     replay_errors();
+    index_built();
+    index_damaged();
+    index_looked_up();
     long cases = damage(argc > 1 ? argv[1] : "tests/damage.txt");
     printf("calls: %ld checks passed, %ld cases of named damage among them\n", checks, cases);
     return 0;

@@ -1,4 +1,4 @@
--- Fixed fields, big-endian (FORMAT 2, 8.1): a number's bytes, and the number that bytes encode.
+-- Fixed fields, big-endian (FORMAT 2, 8.1, 19.1): a number's bytes, and the number that bytes encode.
 -- To be believed. Assumes nothing.
 use Prim.Native.Nat.{ℕ, _+_, _*_, _/_, _%_, _^_}
 use mathlib.Core.Bool.{true, false}
@@ -25,3 +25,7 @@ readBe4 s = getD s 0 0 * 2 ^ 24 + getD s 1 0 * 2 ^ 16 + getD s 2 0 * 2 ^ 8 + get
 -- the number that the first eight bytes encode; 0 where there are fewer
 unfoldable pub readBe8 : List ℕ → ℕ
 readBe8 s = elim (leb 8 (length s)) [ true ↦ readBe4 s * 2 ^ 32 + readBe4 (drop 4 s) | false ↦ 0 ]
+
+-- the number that the first four bytes encode; 0 where there are fewer
+unfoldable pub wholeBe4 : List ℕ → ℕ
+wholeBe4 s = elim (leb 4 (length s)) [ true ↦ readBe4 s | false ↦ 0 ]

@@ -1,7 +1,7 @@
 -- Laws of fixed fields: length and bounds, and that decoding undoes encoding.
 use Prim.Native.Nat.{ℕ, _+_, _*_, _/_, _%_, _^_, _≤_, _<_}
 use mathlib.Core.Bool.{Bool, true, false}
-use mathlib.Core.List.{List, _++_}
+use mathlib.Core.List.{List, [], _∷_, _++_}
 use mathlib.Core.Path.{_≡_, refl, sym, ap, ap₂, _∙_}
 use native.Mathlib.Nat.{add-zero}
 use native.Mathlib.Omega.{arith}
@@ -10,7 +10,11 @@ use lib.Dec.{leb}
 use lib.ListN.{length, take, drop, getD, length-append, length-drop, List·getD-append}
 use lib.Pow.{mod-pow-add}
 use lib.Seq.{drop-append-le, getD-drop, getD-take}
-use Rattle.big_endian.specs.Fixed.{be4, be8, readBe2, readBe4, readBe8}
+use Rattle.big_endian.specs.Fixed.{be4, be8, readBe2, readBe4, readBe8, wholeBe4}
+
+pub length-be4 : (x : ℕ) → length (be4 x) ≡ 4
+unfolding be4
+length-be4 x = refl
 
 pub length-be8 : (x : ℕ) → length (be8 x) ≡ 8
 unfolding be4 be8
@@ -25,11 +29,19 @@ pub read-short : (s : List ℕ) → length s < 8 → readBe8 s ≡ 0
 unfolding readBe8
 read-short s h = rw (lt-leb 8 (length s) h, readBe8)
 
+pub whole4 : (s : List ℕ) → 4 ≤ length s → wholeBe4 s ≡ readBe4 s
+unfolding wholeBe4
+whole4 s h = rw (le-leb 4 (length s) h, wholeBe4)
+
+pub short4 : (s : List ℕ) → length s < 4 → wholeBe4 s ≡ 0
+unfolding wholeBe4
+short4 s h = rw (lt-leb 4 (length s) h, wholeBe4)
+
 -- a number is its four bytes, split off from the highest
 joined : (a b c d u v w : ℕ) → w ≡ a + v → v ≡ b + u → u ≡ c + d → a + b + c + d ≡ w
 joined a b c d u v w p q r = omega arith
 
-read-be4 : (x : ℕ) (rest : List ℕ) → readBe4 (be4 x ++ rest) ≡ x % 2 ^ 32
+pub read-be4 : (x : ℕ) (rest : List ℕ) → readBe4 (be4 x ++ rest) ≡ x % 2 ^ 32
 unfolding be4 readBe4
 read-be4 x rest = joined _ _ _ _ _ _ _ (mod-pow-add x 8 24) (mod-pow-add x 8 16) (mod-pow-add x 8 8)
 
@@ -90,3 +102,15 @@ pub read-be4-take : (n : ℕ) (w : List ℕ) → 4 ≤ n → readBe4 (take n w) 
 unfolding readBe4
 read-be4-take n w h =
     rw (getD-take n w 0 0 (omega arith), getD-take n w 1 0 (omega arith), getD-take n w 2 0 (omega arith), getD-take n w 3 0 (omega arith))
+
+-- bytes below 256 are those of the number that they encode
+pub be4-read : (a b c d : ℕ) (w : List ℕ) → a < 256 → b < 256 → c < 256 → d < 256
+    → be4 (readBe4 (a ∷ b ∷ c ∷ d ∷ w)) ≡ a ∷ b ∷ c ∷ d ∷ []
+unfolding be4 readBe4
+be4-read a b c d w ha hb hc hd =
+    let x : ℕ = a * 2 ^ 24 + b * 2 ^ 16 + c * 2 ^ 8 + d in
+    let e3 : x / 2 ^ 24 % 256 ≡ a = omega arith in
+    let e2 : x / 2 ^ 16 % 256 ≡ b = omega arith in
+    let e1 : x / 2 ^ 8 % 256 ≡ c = omega arith in
+    let e0 : x % 256 ≡ d = omega arith in
+    λ i. e3 i ∷ e2 i ∷ e1 i ∷ e0 i ∷ []

@@ -1,4 +1,4 @@
-// Fixed fields of eight bytes, big-endian (FORMAT 8.1).
+// Fixed fields of eight and of four bytes, big-endian (FORMAT 8.1, 19.1).
 //
 // No public function has a `requires`. A place is an index into the slice. A put that does not fit
 // changes no byte and returns the place given; otherwise it returns the place after its last byte.
@@ -7,7 +7,7 @@ ghost use Prim.Native.Nat.{_+_, _≤_, _<_, _^_};
 ghost use lib.ListN.{length, drop};
 ghost use lib.Seq.{sets};
 ghost use Rattle.byte_copy.specs.Put.{putAt, putEnd};
-ghost use Rattle.big_endian.specs.Fixed.{be4, be8, readBe4, readBe8};
+ghost use Rattle.big_endian.specs.Fixed.{be4, be8, readBe4, readBe8, wholeBe4};
 
 // Encodes x as eight bytes at a place of buf.
 pub fn put_be8(buf: &mut [u8], at: usize, x: u64) -> usize
@@ -22,6 +22,20 @@ pub fn put_be8(buf: &mut [u8], at: usize, x: u64) -> usize
     }
     let middle = write_half(buf, at, x / 0x1_0000_0000);
     write_half(buf, middle, x)
+}
+
+// Encodes the four lowest bytes of x at a place of buf.
+pub fn put_be4(buf: &mut [u8], at: usize, x: u64) -> usize
+    ensures { λ r. ⌜ r ≡ putEnd (now (buf .entry)) at (be4 x) ⌝ }
+    ensures { λ _. ⌜ now (buf .exit) ≡ putAt (now (buf .entry)) at (be4 x) ⌝ }
+{
+    if buf.len() < at {
+        return at;
+    }
+    if buf.len() - at < 4 {
+        return at;
+    }
+    write_half(buf, at, x)
 }
 
 // Writes the four lowest bytes of x at a place with room for them, and returns the place after.
@@ -54,6 +68,20 @@ pub fn get_be8(buf: &[u8], at: usize) -> u64
     let high = read_half(buf, at);
     let low = read_half(buf, middle);
     high * 0x1_0000_0000 + low
+}
+
+// Decodes the four bytes at a place of buf; 0 where there are fewer.
+pub fn get_be4(buf: &[u8], at: usize) -> u64
+    ensures { λ r. ⌜ r ≡ wholeBe4 (drop at (now (buf .entry))) ⌝ }
+    ensures { λ r. ⌜ r < 2 ^ 32 ⌝ }
+{
+    if buf.len() < at {
+        return 0;
+    }
+    if buf.len() - at < 4 {
+        return 0;
+    }
+    read_half(buf, at)
 }
 
 // Decodes the four bytes at a place that has them.

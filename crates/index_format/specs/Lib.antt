@@ -1,0 +1,7 @@
+pub mod Index
+pub mod Calls
+pub mod Claims
+pub mod Laws
+pub mod Theorems
+pub mod Instances
+pub mod StandIns
