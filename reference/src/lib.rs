@@ -17,6 +17,7 @@ pub mod replay;
 pub mod rows;
 pub mod segment;
 pub mod selftest;
+pub mod sizing;
 pub mod tour;
 pub mod tour_samples;
 pub mod varint;
