@@ -182,6 +182,11 @@ extern "C" {
         good: *mut u64,
         out: *mut u64,
     ) -> u32;
+    fn depot_wal_pages_for(records: u64, bytes: u64, out: *mut u64) -> u32;
+}
+
+pub fn pages_for(records: u64, bytes: u64) -> Answer<1> {
+    answer(|out| unsafe { depot_wal_pages_for(records, bytes, out) })
 }
 
 pub fn write(segment: &mut [u8], place: usize, record: &[u8]) -> Answer<2> {

@@ -2,6 +2,7 @@
 //! every byte of the slice and of the buffer.
 
 mod pairs;
+mod sizes;
 mod zeros;
 
 use crate::checksums::{fill_with_noise, own_table};
@@ -21,6 +22,9 @@ pub fn groups() -> Vec<Group> {
         ("write, lists of calls", compare_write_lists),
         ("write, bad slices", compare_bad_slices),
         ("write, at the limit", compare_write_limit),
+        ("pages for a list, numbers", sizes::compare_numbers),
+        ("pages for a list, one record", sizes::compare_one_record),
+        ("pages for a list, written", sizes::compare_lists),
         ("read, written segments", compare_written),
         ("read, cuts", compare_cuts),
         ("read, damage", compare_damage),
