@@ -3,7 +3,8 @@
  *
  * A segment is a caller-owned buffer. Records of 1 to 65,536 bytes are written into it and read
  * back, seven types of record bodies are encoded and decoded, a log is replayed into a table of
- * what each series had last, and an index beside a segment tells where each record is.
+ * what each series had last, an index beside a segment tells where each record is, and a call tells
+ * how big a partition must be.
  * docs/FORMAT.md draws the bytes; examples/switch.c is a whole program. The archive is for Linux on
  * x86-64; beside the caller's memory it needs `memset` and `memcpy`.
  *
@@ -357,6 +358,11 @@ struct depot_wal_row {
     uint64_t length; /* its bytes */
 };
 
+/* Of the size of a partition. */
+struct depot_wal_pages {
+    uint64_t pages; /* how many pages of DEPOT_WAL_PAGE bytes; on an error: its place */
+};
+
 /* The library writes each of them as an array of uint64_t, so none may be padded. This is a check
  * at compile time. */
 typedef char depot_wal_layout[
@@ -368,7 +374,8 @@ typedef char depot_wal_layout[
     sizeof(struct depot_wal_list) == 2 * 8 && sizeof(struct depot_wal_histogram) == 18 * 8 &&
     sizeof(struct depot_wal_span) == 3 * 8 && sizeof(struct depot_wal_bucket) == 2 * 8 &&
     sizeof(struct depot_wal_replayed) == 6 * 8 && sizeof(struct depot_wal_series) == 5 * 8 &&
-    sizeof(struct depot_wal_indexed) == 2 * 8 && sizeof(struct depot_wal_row) == 2 * 8
+    sizeof(struct depot_wal_indexed) == 2 * 8 && sizeof(struct depot_wal_row) == 2 * 8 &&
+    sizeof(struct depot_wal_pages) == 1 * 8
         ? 1 : -1];
 
 /* ---- the segment ---- */
@@ -775,6 +782,44 @@ depot_wal_status depot_wal_index_extend(const uint8_t *segment, size_t segment_l
  * Changes: *out. */
 depot_wal_status depot_wal_index_at(const uint8_t *index, size_t index_len, uint64_t record,
                                     struct depot_wal_row *out);
+
+/* ---- the size of a partition ---- */
+
+/* How big must the partition be? Say how many records it is to hold and how many bytes they have in
+ * all, and depot_wal_pages_for says how many pages are sure to do, however the records lie.
+ *
+ * A switch, as examples/switch.c writes it, is a record of 37 bytes, and 44 with its header. A page
+ * holds 744 of them. One that goes on in the next page has a second header, so each page costs up
+ * to 7 bytes more. A box that switches 2,000 times a day and keeps a year:
+ *
+ *     uint64_t switches = 2000 * 365;
+ *     struct depot_wal_pages need;
+ *     depot_wal_pages_for(switches, 37 * switches, &need); // 981 pages: 32,145,408 bytes
+ *
+ * By hand: 44 bytes a switch, divided by 32,761 and rounded up.
+ *
+ *     switches a day  kept for   switches  pages        bytes
+ *                100  a year       36,500     50    1,638,400
+ *              1,000  a year      365,000    491   16,089,088
+ *              2,000  a year      730,000    981   32,145,408
+ *                300  10 years  1,095,000  1,471   48,201,728
+ *              8,355  a year    3,049,575  4,096  134,217,728
+ *
+ * One segment, DEPOT_WAL_SEGMENT_MAX or 4,096 pages, is sure to hold 3,049,751 switches; for more,
+ * keep several segments and ask for each. 37 bytes are two rows of one time whose ids are at most
+ * 63 apart; with ids further apart it is up to 46, and with two times up to 55. Series records,
+ * written once, come on top: add their numbers to both sums. */
+
+/* How many pages a segment must have so that no write into it, from place 0 on, is refused for want
+ * of room: of any list of `records` records, none empty and none above DEPOT_WAL_RECORD_MAX, that
+ * have `bytes` bytes in all. It is at most one page more than any such list takes, and for one
+ * record exact. Numbers that no list has are answered by the same rule (docs/FORMAT.md 20).
+ * Result: the pages, 1 to 4,096; 1 where `records` is 0.
+ * Errors, with the place in `pages`:
+ *   DEPOT_WAL_NO_ROOM  0  it would be more than 4,096 pages, a whole segment
+ * Changes: *out. */
+depot_wal_status depot_wal_pages_for(uint64_t records, uint64_t bytes,
+                                     struct depot_wal_pages *out);
 
 #ifdef __cplusplus
 }

@@ -54,6 +54,7 @@ union result {
     struct depot_wal_replayed replayed;
     struct depot_wal_indexed indexed;
     struct depot_wal_row row;
+    struct depot_wal_pages pages;
 };
 static union result guarded[3], *const out = &guarded[1];
 enum { PATTERN = 0xA5 };
@@ -84,6 +85,7 @@ static int gives(depot_wal_status got, depot_wal_status status, const void *want
 #define BUCKET(...) &(struct depot_wal_bucket){__VA_ARGS__}, sizeof(struct depot_wal_bucket)
 #define INDEXED(...) &(struct depot_wal_indexed){__VA_ARGS__}, sizeof(struct depot_wal_indexed)
 #define ROW(...) &(struct depot_wal_row){__VA_ARGS__}, sizeof(struct depot_wal_row)
+#define PAGES(...) &(struct depot_wal_pages){__VA_ARGS__}, sizeof(struct depot_wal_pages)
 #define REPLAYED(...) &(struct depot_wal_replayed){__VA_ARGS__}, sizeof(struct depot_wal_replayed)
 
 /* Writes bytes given as text in hexadecimal; blanks do not matter. Returns how many. */
@@ -174,6 +176,7 @@ static void layouts(void)
     FIELD(depot_wal_indexed, 1, error_at);
     FIELD(depot_wal_row, 0, start);
     FIELD(depot_wal_row, 1, length);
+    FIELD(depot_wal_pages, 0, pages);
     FIELD(depot_wal_series, 0, id);
     FIELD(depot_wal_series, 1, rows);
     FIELD(depot_wal_series, 2, time);
@@ -1940,6 +1943,110 @@ static void index_looked_up(void)
                 ROW(.start = 0)));
 }
 
+/* ---- the size of a partition ---- */
+
+static void pages_are(int line, uint64_t records, uint64_t bytes, uint64_t pages)
+{
+    check(line, GIVES(depot_wal_pages_for(records, bytes, &out->pages), DONE,
+                      PAGES(.pages = pages)), "the pages");
+}
+
+static void no_pages(int line, uint64_t records, uint64_t bytes)
+{
+    check(line, GIVES(depot_wal_pages_for(records, bytes, &out->pages), DEPOT_WAL_NO_ROOM,
+                      PAGES(.pages = 0)), "more than a segment has");
+}
+
+/* The pages for so many records and bytes: up to the limit, and any numbers. */
+static void pages_told(void)
+{
+    pages_are(__LINE__, 0, 0, 1);
+    pages_are(__LINE__, 0, TOP, 1);
+    pages_are(__LINE__, 1, 0, 1); /* no list has these */
+    pages_are(__LINE__, 1, 1, 1);
+    pages_are(__LINE__, 1, 32761, 1);
+    pages_are(__LINE__, 1, 32762, 2);
+    pages_are(__LINE__, 1, 65522, 2);
+    pages_are(__LINE__, 1, 65523, 3);
+    pages_are(__LINE__, 1, 65536, 3);
+    pages_are(__LINE__, 2, 32754, 1); /* 7 more for the second */
+    pages_are(__LINE__, 2, 32755, 2);
+
+    /* the switches of the header's comment */
+    pages_are(__LINE__, 744, 744 * 37, 1);
+    pages_are(__LINE__, 745, 745 * 37, 2);
+    pages_are(__LINE__, 36500, 36500 * 37, 50);
+    pages_are(__LINE__, 365000, 365000 * 37, 491);
+    pages_are(__LINE__, 730000, 730000 * 37, 981);
+    pages_are(__LINE__, 1095000, 1095000 * 37, 1471);
+    pages_are(__LINE__, 3049575, 3049575 * 37, 4096);
+    pages_are(__LINE__, 3049751, 3049751 * 37, 4096);
+    no_pages(__LINE__, 3049752, 3049752 * 37);
+
+    /* 4,096 pages: 134,189,056 bytes, and 7 for each record but the first */
+    pages_are(__LINE__, 1, 134189056, 4096);
+    no_pages(__LINE__, 1, 134189057);
+    pages_are(__LINE__, 19169866, 1, 4096);
+    no_pages(__LINE__, 19169866, 2);
+    /* sums that are small modulo 2^64 */
+    no_pages(__LINE__, 1, TOP);
+    no_pages(__LINE__, 2, TOP - 6);
+    no_pages(__LINE__, 2, TOP);
+    no_pages(__LINE__, 2635249153387078804u, 1);
+    no_pages(__LINE__, TOP, 0);
+    no_pages(__LINE__, TOP, TOP);
+}
+
+/* Writes a list of records into a partition of so many pages: none is refused, and it ends there.
+ * One page less refuses the last, if `needed`. */
+static void list_ends(int line, const size_t *lengths, size_t n, size_t pages, size_t end,
+                      int needed)
+{
+    static uint8_t partition[4 * PAGE];
+    uint64_t bytes = 0;
+    for (size_t i = 0; i < n; i++)
+        bytes += lengths[i];
+    pages_are(line, n, bytes, pages);
+    for (size_t k = pages - 1; k <= pages; k++) {
+        size_t place = 0, refused = 0;
+        for (size_t i = 0; k > 0 && i < n; i++) {
+            refused += depot_wal_write(partition, k * PAGE, place, record, lengths[i],
+                                       &out->written) == DEPOT_WAL_NO_ROOM;
+            place = out->written.next;
+        }
+        check(line, refused == (k < pages && needed), "what is refused");
+        check(line, refused || k == 0 || place == end, "the final place");
+    }
+    check(line, end <= bytes + 7 * n + 7 * (end / PAGE), "the bound");
+}
+#define LIST_ENDS(pages, end, needed, ...)                                             \
+    list_ends(__LINE__, (const size_t[]){__VA_ARGS__},                                 \
+              sizeof((const size_t[]){__VA_ARGS__}) / sizeof(size_t), pages, end, needed)
+
+/* The worst lists: records that leave 7 bytes, so that the next begins with a fragment of length 0,
+ * and records that leave 6, which are filler. */
+static void pages_hold(void)
+{
+    fill_record();
+    LIST_ENDS(1, 8, 0, 1);
+    LIST_ENDS(1, 32768, 0, 32761);
+    LIST_ENDS(2, 32776, 1, 32762);
+    LIST_ENDS(2, 65536, 1, 65522);
+    LIST_ENDS(3, 65557, 1, 65536);
+    /* 7 left: d + 7n + 7P, all of the bound */
+    LIST_ENDS(2, 32776, 1, 32754, 1);
+    LIST_ENDS(3, 98297, 1, 32754, 32754, 32754);
+    LIST_ENDS(4, 131065, 1, 32754, 32754, 32754, 32754);
+    /* four fragments: of 0, 32,761, 32,761 and 14 bytes */
+    LIST_ENDS(4, 98325, 1, 32754, 65536);
+    /* 6 left: one less for each page */
+    LIST_ENDS(2, 32776, 1, 32755, 1);
+    LIST_ENDS(3, 98304, 1, 32755, 32755, 32755);
+    LIST_ENDS(2, 65529, 1, 32755, 32754);
+    /* none left: the pages told are one more than this list takes */
+    LIST_ENDS(3, 65536, 0, 32761, 32761);
+}
+
 int main(int argc, char **argv)
 {
     layouts();
@@ -1986,6 +2093,8 @@ int main(int argc, char **argv)
     index_built();
     index_damaged();
     index_looked_up();
+    pages_told();
+    pages_hold();
     long cases = damage(argc > 1 ? argv[1] : "tests/damage.txt");
     printf("calls: %ld checks passed, %ld cases of named damage among them\n", checks, cases);
     return 0;

@@ -1,0 +1,7 @@
+pub mod Size
+pub mod Claims
+pub mod Laws
+pub mod Theorems
+pub mod Instances
+pub mod StandIns
+pub mod Examples
