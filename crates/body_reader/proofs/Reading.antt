@@ -1,20 +1,22 @@
 -- A string's answer, the list of entries one step at a time, and where the entries begin.
 use mathlib.Core.Path.{_≡_, refl, sym, ap, _∙_}
-use mathlib.Core.Bool.{Bool}
-use mathlib.Core.List.{List, _∷_}
+use mathlib.Core.Bool.{Bool, true}
+use mathlib.Core.List.{List, [], _∷_}
 use Prim.Native.Nat.{ℕ, zero, suc, _+_, _-_, _≤_, _<_}
 use native.Mathlib.Omega.{arith}
 use native.Mathlib.Nat.{add-zero}
 use lib.ListN.{length}
 use Rattle.wal_types.specs.declared.Refusal.{Refusal}
+use Rattle.wal_types.specs.declared.Refusal.the-variants.{Short}
 use Rattle.wal_types.specs.Terms.{offset}
 use Rattle.body_format.specs.declared.CheckAnswer.{CheckAnswer}
 use Rattle.body_format.specs.declared.CheckAnswer.the-variants.{Entries, Refused as CheckRefused}
 use Rattle.body_format.specs.declared.StringAnswer.the-variants.{Found as StringFound, Refused as StringRefused}
 use Rattle.body_format.specs.Fields.{Field, got, fault, andThen, StringField}
-use Rattle.body_format.specs.Entries.{BodyType, Entry, Placed, hasRows, entryAt, entriesFrom, firstAt, entries, known}
+use Rattle.body_format.specs.Entries.{BodyType, samples, Entry, Placed, hasRows, entryAt, entriesFrom, firstAt, entries, known}
 use Rattle.body_format.specs.Reading.{checkFields, checkKnown, checkBody, answerString}
 use Rattle.body_format.specs.Laws.Bounds.{of-got, entry-ahead}
+use Rattle.body_format.specs.Laws.Fields.{fixed-short}
 use Rattle.body_format.specs.Laws.Lists.{entries-end, entries-suc, first-bounds}
 use Rattle.body_fields.specs.declared.Place.{Place}
 use Rattle.body_fields.specs.declared.Place.the-variants.{At, Fault}
@@ -122,3 +124,21 @@ check-fault k s h e = rw (h, e)
 pub first-inside : (t : Bool) (s : List ℕ) {p : ℕ} → 0 < length s → (q : ℕ) × (firstAt t s ≡ got p q)
     → (0 < p) × (p ≤ length s)
 first-inside t s {p} h (q, e) = let b = of-got _ (firstAt t s) p q (first-bounds t s h) e in (b .0, b .1)
+
+-- ---- samples alone
+
+pub samples-all : (s : List ℕ) {first : ℕ} → (q : ℕ) × (firstAt true s ≡ got first q)
+    → checkFields (entriesFrom (length s) samples s first) ≡ checkKnown (known samples) s
+unfolding entries
+samples-all s (q, e) = rw e
+
+pub samples-fault : (s : List ℕ) {why : Refusal} → firstAt true s ≡ fault why → CheckRefused why ≡ checkKnown (known samples) s
+unfolding entries
+samples-fault s e = rw e
+
+-- an empty body has no place where they begin
+pub samples-inside : (s : List ℕ) {p : ℕ} → (q : ℕ) × (firstAt true s ≡ got p q) → (0 < p) × (p ≤ length s)
+samples-inside [] {p} (q, e) =
+    let z : _≡_ {A = Field ℕ} (fault (Short (offset 1))) (got p q) = rw (fixed-short [] 1 (omega arith)) at e in
+    never cc
+samples-inside (b ∷ s) e = first-inside true (b ∷ s) (omega arith) e

@@ -31,7 +31,7 @@ ghost use Rattle.wal_types.specs.Deltas.{plus, toBits, fromBits};
 ghost use Rattle.varint.specs.Varint.{unzigzag};
 ghost use Rattle.body_format.specs.Fields.{stringListAt};
 ghost use Rattle.body_format.specs.Heads.{headAt};
-ghost use Rattle.body_format.specs.Entries.{BodyType, hasRows, known, firstAt, rowAt, entryAt};
+ghost use Rattle.body_format.specs.Entries.{BodyType, samples, hasRows, known, firstAt, rowAt, entryAt};
 ghost use Rattle.body_format.specs.Reading.{answerEntry, entryKnown, placeOrEnd, firstPlace, entryPlace};
 ghost use Rattle.body_fields.specs.Readings.{stringListRead};
 ghost use Rattle.body_fields.specs.Ends.{endOf};
@@ -288,6 +288,18 @@ pub fn row_entry_end(body: &[u8], labelled: bool, at: usize) -> Place
     } else {
         labels
     }
+}
+
+// The same of a row without labels. A short one is told here, so that this has little code and is
+// inlined in a loop over samples.
+pub fn sample_end(body: &[u8], at: usize) -> Place
+    ensures { λ r. ⌜ r ≡ endOf (entryAt samples (now (body .entry)) at) ⌝ }
+{
+    if is_short_row(body, at) {
+        let next = at + SHORT_ROW;
+        return Place::At(next);
+    }
+    row_entry_end(body, false, at)
 }
 
 // ---- a place of a body
