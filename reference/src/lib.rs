@@ -22,3 +22,4 @@ pub mod tour;
 pub mod tour_samples;
 pub mod varint;
 pub mod vectors;
+pub mod version;

@@ -1,8 +1,9 @@
-//! The listing (FORMAT 15 and document 02 [2]).
+//! The listing (FORMAT 15 and document 02 [2]). It reads segments of version 1 ([11]).
 
 use crate::feed::{Feed, Read};
 use crate::refusal::{Refusal, TORN};
 use crate::segment::{self, Good, Reading, PAGE, RECORD_MAX, SEGMENT_MAX};
+use crate::version::Version;
 use std::io::{self, ErrorKind};
 
 /// The most bytes that are listed.
@@ -13,7 +14,7 @@ pub const INPUT_MAX: usize = SEGMENT_MAX;
 pub fn list(mut input: impl io::Read, mut output: impl io::Write) -> io::Result<()> {
     let mut page = vec![0; PAGE];
     let mut buffer = vec![0; RECORD_MAX];
-    let mut feed = Feed::start();
+    let mut feed = Feed::start(Version::One);
     let mut fed = 0;
     loop {
         let read = feed.read(&page[..fed], &mut buffer);
@@ -49,7 +50,7 @@ fn list_slice(segment: &[u8], mut output: impl io::Write) -> io::Result<()> {
     let mut buffer = vec![0; RECORD_MAX];
     let mut good = Good::default();
     loop {
-        match segment::read(segment, good.offset, &mut buffer, &mut good) {
+        match segment::read(Version::One, segment, good.offset, &mut buffer, &mut good) {
             Ok(Reading::Record(record)) => {
                 write_record(&mut output, record.start, &buffer[..record.length])?;
             }
@@ -104,7 +105,7 @@ mod tests {
     fn switch_segment() {
         let mut page = vec![0; PAGE];
         let record = [&[2], &[0; 36][..]].concat();
-        segment::write(&mut page, 0, &record).expect("it fits");
+        segment::write(Version::One, &mut page, 0, &record).expect("it fits");
         for list in [text, list_segment] {
             assert_eq!(list(&page[..44]), "record 0 37 2\nclean 1\n");
             assert_eq!(list(&page[..43]), "torn 0 0\n");
@@ -115,7 +116,7 @@ mod tests {
     /// A record of one byte, 7.
     fn seven() -> Vec<u8> {
         let mut page = vec![0; PAGE];
-        let next = segment::write(&mut page, 0, &[7]).expect("it fits");
+        let next = segment::write(Version::One, &mut page, 0, &[7]).expect("it fits");
         page.truncate(next);
         page
     }
@@ -156,7 +157,7 @@ mod tests {
     fn a_record_open_at_the_limit() {
         let record = [5; segment::FRAGMENT_MAX + 1];
         let mut pages = vec![0; 2 * PAGE];
-        segment::write(&mut pages, 0, &record).expect("it fits");
+        segment::write(Version::One, &mut pages, 0, &record).expect("it fits");
         let first = INPUT_MAX - PAGE;
         let listed = zeros_between(&[], INPUT_MAX, &pages[..PAGE]);
         assert_eq!(listed, format!("torn {first} 0\n"));
@@ -183,7 +184,7 @@ mod tests {
             }
         }
         let mut pages = vec![0; 2 * PAGE];
-        let next = segment::write(&mut pages, 0, &[8; 40_000]).expect("it fits");
+        let next = segment::write(Version::One, &mut pages, 0, &[8; 40_000]).expect("it fits");
         let listed = text_by(|lines| list(Slow(&pages[..next], false), lines));
         assert_eq!(listed, "record 0 40000 8\nclean 1\n");
     }

@@ -34,6 +34,8 @@ pub const BAD_RANGE: u32 = 27;
 pub const TABLE_FULL: u32 = 28;
 /// Document 02 [9]: not the index of its segment.
 pub const BAD_INDEX: u32 = 29;
+/// Document 02 [11]: a version that is not known, or a name of another shape.
+pub const BAD_NAME: u32 = 30;
 
 /// `Err` with the number and the place.
 pub fn refuse<T>(number: u32, place: usize) -> Result<T, Refusal> {

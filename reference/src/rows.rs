@@ -9,6 +9,7 @@ use crate::histogram::{self, List};
 use crate::refusal::{Refusal, UNKNOWN_TYPE};
 use crate::segment::{self, Good, Reading};
 use crate::vectors::hex;
+use crate::version::Version;
 
 /// The lines of a segment up to its end or its refusal. It is an error if a body is refused other
 /// than for its type.
@@ -16,7 +17,9 @@ pub fn text(segment: &[u8]) -> Result<String, String> {
     let mut buffer = vec![0; segment::RECORD_MAX];
     let mut lines = String::new();
     let good = &mut Good::default();
-    while let Ok(Reading::Record(record)) = segment::read(segment, good.offset, &mut buffer, good) {
+    while let Ok(Reading::Record(record)) =
+        segment::read(Version::One, segment, good.offset, &mut buffer, good)
+    {
         let body = &buffer[..record.length];
         lines += &record_line(record.after, body);
         lines += &entry_lines(body).map_err(|Refusal { number, place }| {
@@ -210,7 +213,7 @@ mod tests {
 
     fn segment_of(body: &[u8]) -> Vec<u8> {
         let mut page = vec![0; segment::PAGE];
-        let next = segment::write(&mut page, 0, body).expect("it fits");
+        let next = segment::write(Version::One, &mut page, 0, body).expect("it fits");
         page.truncate(next);
         page
     }

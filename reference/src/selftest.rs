@@ -2,6 +2,7 @@
 //! record, which document 02 [5] refuses.
 
 use crate::refusal::{refuse, HOLLOW};
+use crate::version::Version;
 use crate::{crc32c, segment, varint};
 
 /// RFC 3720, B.4: the 48 bytes of an iSCSI read command.
@@ -103,10 +104,10 @@ fn published_varints() -> Result<(), String> {
 fn empty_record_is_refused() -> Result<(), String> {
     let mut buffer = vec![0; segment::RECORD_MAX];
     let good = &mut segment::Good::default();
-    let read = segment::read(&[1, 0, 0, 0, 0, 0, 0], 0, &mut buffer, good);
+    let read = segment::read(Version::One, &[1, 0, 0, 0, 0, 0, 0], 0, &mut buffer, good);
     expect("empty record read", read, refuse(HOLLOW, 0))?;
     let mut page = vec![0; segment::PAGE];
-    let written = segment::write(&mut page, 14, &[]);
+    let written = segment::write(Version::One, &mut page, 14, &[]);
     expect("empty record written", written, refuse(HOLLOW, 14))
 }
 

@@ -7,6 +7,7 @@
 //! (document 02 [8]).
 
 use crate::segment::{self, Good, Reading, PAGE, RECORD_MAX};
+use crate::version::Version;
 use std::fmt::Write;
 
 const PAGES: usize = 4;
@@ -26,7 +27,7 @@ pub fn text() -> String {
     let mut place = 0;
     for length in LENGTHS {
         let record: Vec<u8> = (0..length).map(|i| i as u8).collect();
-        place = segment::write(&mut slice, place, &record).expect("the records fit");
+        place = segment::write(Version::One, &mut slice, place, &record).expect("the records fit");
     }
     let mut lines = String::new();
     add_reads(&mut lines, &slice);
@@ -39,7 +40,13 @@ fn add_reads(lines: &mut String, bytes: &[u8]) {
     line(format!("segment {}", bytes.len()));
     let mut good = Good::default();
     for _ in 0..READS {
-        let read = segment::read(bytes, good.offset, &mut vec![0; RECORD_MAX], &mut good);
+        let read = segment::read(
+            Version::One,
+            bytes,
+            good.offset,
+            &mut vec![0; RECORD_MAX],
+            &mut good,
+        );
         let answer = match read {
             Ok(Reading::Record(record)) => {
                 let (start, length) = (record.start, record.length);

@@ -31,6 +31,7 @@
 use crate::refusal::Refusal;
 use crate::segment::{self, Good, Reading, Record, HEADER, PAGE, RECORD_MAX};
 use crate::varint::{self, Fault};
+use crate::version::Version;
 use crate::{crc32c, selftest};
 use std::fmt::Write;
 
@@ -164,7 +165,7 @@ fn add_writes(lines: &mut String, pages: usize, writes: &[(usize, usize)]) {
     let mut slice = vec![0; pages * PAGE];
     for &(place, length) in writes {
         let record: Vec<u8> = (0..length).map(|i| i as u8).collect();
-        match segment::write(&mut slice, place, &record) {
+        match segment::write(Version::One, &mut slice, place, &record) {
             Ok(next) => {
                 line(lines, format_args!("write {place} {length} -> next {next}"));
                 add_fragments(lines, &slice, place);
@@ -198,7 +199,13 @@ fn add_types(lines: &mut String) {
     for type_byte in TYPES {
         let bytes = [type_byte, 0, 0, 0, 0, 0, 0];
         let good = &mut Good::default();
-        let what = reading(segment::read(&bytes, 0, &mut vec![0; RECORD_MAX], good));
+        let what = reading(segment::read(
+            Version::One,
+            &bytes,
+            0,
+            &mut vec![0; RECORD_MAX],
+            good,
+        ));
         line(lines, format_args!("type {type_byte:02x} -> {what}"));
     }
 }
@@ -213,11 +220,17 @@ const CUTS: [usize; 6] = [44, 43, 7, 6, 1, 0];
 
 fn add_cuts(lines: &mut String) {
     let mut slice = vec![0; PAGE];
-    segment::write(&mut slice, 0, &SWITCH).expect("the switch fits");
+    segment::write(Version::One, &mut slice, 0, &SWITCH).expect("the switch fits");
     for cut in CUTS {
         let good = &mut Good::default();
         loop {
-            let read = segment::read(&slice[..cut], good.offset, &mut vec![0; RECORD_MAX], good);
+            let read = segment::read(
+                Version::One,
+                &slice[..cut],
+                good.offset,
+                &mut vec![0; RECORD_MAX],
+                good,
+            );
             line(lines, format_args!("cut {cut} -> {}", reading(read)));
             if !matches!(read, Ok(Reading::Record(_))) {
                 break;

@@ -10,6 +10,7 @@ use reference::segment::{
     self, left_in_page, Good, Reading, EMPTY, FIRST, FRAGMENT_MAX, FULL, HEADER, LAST, MIDDLE,
     PAGE, RECORD_MAX, SEGMENT_MAX,
 };
+use reference::version::Version;
 use rng::Rng;
 use std::collections::BTreeSet;
 
@@ -51,7 +52,7 @@ impl<'a> Caller<'a> {
     fn new(segment: &'a [u8]) -> Self {
         Caller {
             segment,
-            feed: Feed::start(),
+            feed: Feed::start(Version::One),
             page: &[],
             fed: 0,
             place: 0,
@@ -88,7 +89,13 @@ impl<'a> Caller<'a> {
     /// The answer of the slice reader, whose pair is the feed's.
     fn read_slice(&mut self) -> Result<Reading, Refusal> {
         let buffer = &mut self.slice_buffer;
-        let read = segment::read(self.segment, self.place, buffer, &mut self.good);
+        let read = segment::read(
+            Version::One,
+            self.segment,
+            self.place,
+            buffer,
+            &mut self.good,
+        );
         assert_eq!(self.feed.good(), self.good);
         read
     }
@@ -97,6 +104,7 @@ impl<'a> Caller<'a> {
     fn read_first(&mut self, length: usize) -> Result<Reading, Refusal> {
         let first = &self.segment[..length];
         segment::read(
+            Version::One,
             first,
             self.place,
             &mut self.slice_buffer,
@@ -214,7 +222,7 @@ fn written(rng: &mut Rng) -> Vec<u8> {
     for _ in 0..rng.below(20) {
         let length = rng.length(left_in_page(place) - HEADER).max(1);
         let record = rng.bytes(length);
-        match segment::write(&mut segment, place, &record) {
+        match segment::write(Version::One, &mut segment, place, &record) {
             Ok(next) => place = next,
             Err(_) => break,
         }
@@ -357,10 +365,11 @@ fn noise() {
 fn bordered() -> [Vec<u8>; 3] {
     [32_761, 32_755, 32_754].map(|length| {
         let mut segment = vec![0; 4 * PAGE];
-        let next = segment::write(&mut segment, 0, &vec![1; length]).expect("it fits");
-        let next = segment::write(&mut segment, next, &[2; 40_000]).expect("it fits");
+        let next =
+            segment::write(Version::One, &mut segment, 0, &vec![1; length]).expect("it fits");
+        let next = segment::write(Version::One, &mut segment, next, &[2; 40_000]).expect("it fits");
         assert_eq!(next / PAGE, 2);
-        segment::write(&mut segment, 3 * PAGE, &[3; FRAGMENT_MAX]).expect("it fits");
+        segment::write(Version::One, &mut segment, 3 * PAGE, &[3; FRAGMENT_MAX]).expect("it fits");
         segment
     })
 }
@@ -429,7 +438,9 @@ fn ends_of_records(segment: &[u8]) -> Vec<usize> {
     let mut buffer = vec![0; RECORD_MAX];
     let mut ends = vec![];
     let good = &mut Good::default();
-    while let Ok(Reading::Record(record)) = segment::read(segment, good.offset, &mut buffer, good) {
+    while let Ok(Reading::Record(record)) =
+        segment::read(Version::One, segment, good.offset, &mut buffer, good)
+    {
         ends.push(record.after);
     }
     ends
@@ -455,7 +466,7 @@ fn a_hollow_fragment_is_refused_where_it_stands() {
     let first = fragment(FIRST, &[1; FRAGMENT_MAX]);
     let hollow = fragment(LAST, &[]);
     let mut buffer = vec![UNTOUCHED; RECORD_MAX];
-    let mut feed = Feed::start();
+    let mut feed = Feed::start(Version::One);
     assert_eq!(feed.feed_page(&first), Ok(()));
     assert_eq!(feed.read(&first, &mut buffer), Read::More);
     assert_eq!(feed.feed_page(&hollow), Ok(()));
@@ -487,8 +498,9 @@ fn the_good_length_of_what_prometheus_wrote() {
         assert_eq!(compare(&segment), number);
         let mut buffer = vec![0; RECORD_MAX];
         let good = &mut Good::default();
-        while let Ok(Reading::Record(_)) = segment::read(&segment, good.offset, &mut buffer, good) {
-        }
+        while let Ok(Reading::Record(_)) =
+            segment::read(Version::One, &segment, good.offset, &mut buffer, good)
+        {}
         assert_eq!((good.records, good.offset), (records, offset), "{name}");
     }
 }
@@ -526,7 +538,7 @@ fn read_refused(feed: &mut Feed, page: &[u8], answer: Read) {
 
 #[test]
 fn a_read_before_any_feed_asks() {
-    let mut feed = Feed::start();
+    let mut feed = Feed::start(Version::One);
     for page in [&[][..], &[9], &[0; PAGE + 1]] {
         read_refused(&mut feed, page, Read::More);
     }
@@ -540,7 +552,7 @@ fn a_read_before_any_feed_asks() {
 fn a_feed_that_no_read_asked_for() {
     let page = page_of_one();
     let mut buffer = vec![0; RECORD_MAX];
-    let mut feed = Feed::start();
+    let mut feed = Feed::start(Version::One);
     assert_eq!(feed.feed_page(&page), Ok(()));
     feed_refused(&mut feed, &page, BAD_PLACE, 0);
     feed_refused(&mut feed, &[0; PAGE + 1], BAD_BUFFER, 0);
@@ -569,7 +581,7 @@ fn a_feed_that_no_read_asked_for() {
 fn a_record_that_ends_with_its_page_is_answered_at_once() {
     let page = fragment(FULL, &[7; FRAGMENT_MAX]);
     let mut buffer = vec![0; RECORD_MAX];
-    let mut feed = Feed::start();
+    let mut feed = Feed::start(Version::One);
     assert_eq!(feed.feed_page(&page), Ok(()));
     let record = Read::Record {
         start: 0,
@@ -588,7 +600,7 @@ fn a_short_buffer_does_not_ask() {
     let mut page = page_of_one();
     page[8] = 9;
     let mut short = vec![0; RECORD_MAX - 1];
-    let mut feed = Feed::start();
+    let mut feed = Feed::start(Version::One);
     assert_eq!(feed.read(&[], &mut short), refused(BAD_BUFFER, 0));
     assert_eq!(feed.feed_page(&page), Ok(()));
     let mut buffer = vec![0; RECORD_MAX + 1];
@@ -607,7 +619,7 @@ fn a_page_of_another_length() {
     let mut page = page_of_one();
     page[8] = 5;
     let mut buffer = vec![0; RECORD_MAX];
-    let mut feed = Feed::start();
+    let mut feed = Feed::start(Version::One);
     assert_eq!(feed.feed_page(&page), Ok(()));
     read_refused(&mut feed, &page[1..], refused(BAD_BUFFER, 0));
     read_refused(&mut feed, &[], refused(BAD_BUFFER, 0));
@@ -623,7 +635,7 @@ fn a_page_of_another_length() {
 fn a_refusal_stands_before_all_others() {
     let mut buffer = vec![0; RECORD_MAX];
     for page in [vec![9], [&[9][..], &[0; PAGE - 1]].concat()] {
-        let mut feed = Feed::start();
+        let mut feed = Feed::start(Version::One);
         assert_eq!(feed.feed_page(&page), Ok(()));
         assert_eq!(feed.read(&page, &mut buffer), refused(COMPRESSED, 0));
         for later in [&[][..], &[0; PAGE], &[0; PAGE + 1]] {
@@ -637,7 +649,7 @@ fn a_refusal_stands_before_all_others() {
 fn torn_does_not_stand() {
     let page = fragment(FIRST, &[1]);
     let mut buffer = vec![UNTOUCHED; RECORD_MAX];
-    let mut feed = Feed::start();
+    let mut feed = Feed::start(Version::One);
     assert_eq!(feed.feed_page(&page), Ok(()));
     assert_eq!(feed.read(&page, &mut buffer), refused(TORN, 0));
     assert_eq!(buffer[..2], [1, UNTOUCHED]);
@@ -652,7 +664,7 @@ fn fragments_are_stored_before_the_record_is_whole() {
     let mut bad = fragment(LAST, &[2; 9]);
     bad[HEADER] = 3;
     let mut buffer = vec![UNTOUCHED; RECORD_MAX];
-    let mut feed = Feed::start();
+    let mut feed = Feed::start(Version::One);
     assert_eq!(feed.feed_page(&first), Ok(()));
     assert_eq!(feed.read(&first, &mut buffer), Read::More);
     assert_eq!(buffer[..FRAGMENT_MAX], [1; FRAGMENT_MAX]);
@@ -667,7 +679,7 @@ fn fragments_are_stored_before_the_record_is_whole() {
 #[test]
 fn limit() {
     let page = vec![0; PAGE];
-    let mut feed = Feed::start();
+    let mut feed = Feed::start(Version::One);
     let mut buffer = vec![0; RECORD_MAX];
     for _ in 0..SEGMENT_MAX / PAGE {
         assert_eq!(feed.feed_page(&page), Ok(()));
@@ -686,7 +698,7 @@ fn limit() {
 #[test]
 fn limit_without_asking() {
     let page = vec![0; PAGE];
-    let mut feed = Feed::start();
+    let mut feed = Feed::start(Version::One);
     let mut buffer = vec![0; RECORD_MAX];
     for _ in 1..SEGMENT_MAX / PAGE {
         assert_eq!(feed.feed_page(&page), Ok(()));

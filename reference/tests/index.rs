@@ -6,6 +6,7 @@ use reference::crc32c;
 use reference::index::{at, build, check, extend, Found, HEAD, ROW};
 use reference::refusal::*;
 use reference::segment::{self, Good, Reading, FIRST, LAST, MIDDLE, PAGE, RECORD_MAX, SEGMENT_MAX};
+use reference::version::Version;
 use rng::Rng;
 
 /// What a buffer holds where nothing was put.
@@ -16,7 +17,9 @@ fn plain(segment: &[u8]) -> Vec<u8> {
     let mut buffer = vec![0; RECORD_MAX];
     let good = &mut Good::default();
     let mut rows = Vec::new();
-    while let Ok(Reading::Record(record)) = segment::read(segment, good.offset, &mut buffer, good) {
+    while let Ok(Reading::Record(record)) =
+        segment::read(Version::One, segment, good.offset, &mut buffer, good)
+    {
         rows.extend([record.start as u32, record.length as u32]);
     }
     let numbers = [good.records as u32, 12, segment.len() as u32];
@@ -27,7 +30,7 @@ fn plain(segment: &[u8]) -> Vec<u8> {
 /// The index by the call, into a buffer that is longer by so much.
 fn built(segment: &[u8], excess: usize) -> Vec<u8> {
     let mut index = vec![UNTOUCHED; plain(segment).len() + excess];
-    let length = build(segment, &mut index).expect("it fits");
+    let length = build(Version::One, segment, &mut index).expect("it fits");
     assert!(index[length..].iter().all(|&byte| byte == UNTOUCHED));
     index.truncate(length);
     index
@@ -46,7 +49,8 @@ fn written(pages: usize, lengths: &[usize]) -> Vec<u8> {
     let mut segment = vec![0; pages * PAGE];
     let mut place = 0;
     for &length in lengths {
-        place = segment::write(&mut segment, place, &vec![7; length]).expect("it fits");
+        place =
+            segment::write(Version::One, &mut segment, place, &vec![7; length]).expect("it fits");
     }
     segment.truncate(place);
     segment
@@ -74,12 +78,15 @@ fn the_switch() {
         0, 0, 0, 1, 0, 0, 0, 12, 0, 0, 0, 44, 0, 0, 0, 0, 0, 0, 0, 37,
     ];
     assert_eq!(built(&segment, 0), index);
-    assert_eq!(check(&segment, &index), Ok(1));
+    assert_eq!(check(Version::One, &segment, &index), Ok(1));
     // Torn, a length that is covered all the same.
     let torn = [0, 0, 0, 0, 0, 0, 0, 12, 0, 0, 0, 43];
     assert_eq!(built(&segment[..43], 0), torn);
-    assert_eq!(check(&segment, &torn), Ok(0));
-    assert_eq!(check(&segment[..43], &index), refuse(BAD_INDEX, 0));
+    assert_eq!(check(Version::One, &segment, &torn), Ok(0));
+    assert_eq!(
+        check(Version::One, &segment[..43], &index),
+        refuse(BAD_INDEX, 0)
+    );
     assert_eq!(built(&[], 0), [0, 0, 0, 0, 0, 0, 0, 12, 0, 0, 0, 0]);
 }
 
@@ -93,7 +100,10 @@ fn cut_anywhere_and_with_any_room() {
         for excess in [0, 1, 7, 8, 40, cut + HEAD] {
             assert_eq!(built(bytes, excess), plain(bytes), "cut at {cut}");
         }
-        assert_eq!(check(&segment, &plain(bytes)), check(bytes, &plain(bytes)));
+        assert_eq!(
+            check(Version::One, &segment, &plain(bytes)),
+            check(Version::One, bytes, &plain(bytes))
+        );
     }
 }
 
@@ -102,7 +112,10 @@ fn too_short_a_buffer_is_left() {
     let segment = mixed();
     for length in 0..HEAD + 4 * ROW {
         let mut index = vec![UNTOUCHED; length];
-        assert_eq!(build(&segment, &mut index), refuse(NO_ROOM, 0));
+        assert_eq!(
+            build(Version::One, &segment, &mut index),
+            refuse(NO_ROOM, 0)
+        );
         assert!(index.iter().all(|&byte| byte == UNTOUCHED));
     }
 }
@@ -111,22 +124,29 @@ fn too_short_a_buffer_is_left() {
 fn every_byte_of_an_index_counts() {
     let segment = mixed();
     let index = built(&segment, 0);
-    assert_eq!(check(&segment, &index), Ok(4));
+    assert_eq!(check(Version::One, &segment, &index), Ok(4));
     for place in 0..index.len() {
         for change in 1..=255 {
             let mut damaged = index.clone();
             damaged[place] ^= change;
             // The segment ends with its last record, so that a smaller cover loses it.
-            assert_eq!(check(&segment, &damaged), refuse(BAD_INDEX, 0), "{place}");
+            assert_eq!(
+                check(Version::One, &segment, &damaged),
+                refuse(BAD_INDEX, 0),
+                "{place}"
+            );
         }
     }
     for length in 0..index.len() {
-        assert_eq!(check(&segment, &index[..length]), refuse(BAD_INDEX, 0));
+        assert_eq!(
+            check(Version::One, &segment, &index[..length]),
+            refuse(BAD_INDEX, 0)
+        );
     }
     let longer = [&index[..], &[0; 9]].concat();
     for more in 1..=9 {
         let longer = &longer[..index.len() + more];
-        assert_eq!(check(&segment, longer), refuse(BAD_INDEX, 0));
+        assert_eq!(check(Version::One, &segment, longer), refuse(BAD_INDEX, 0));
     }
 }
 
@@ -136,8 +156,11 @@ fn a_cover_of_its_own() {
     let segment = [written(1, &[5]), vec![0; 100]].concat();
     for covered in 12..=112 {
         let index = built(&segment[..covered], 0);
-        assert_eq!(check(&segment, &index), Ok(1));
-        assert_eq!(check(&segment[..covered - 1], &index), refuse(BAD_INDEX, 0));
+        assert_eq!(check(Version::One, &segment, &index), Ok(1));
+        assert_eq!(
+            check(Version::One, &segment[..covered - 1], &index),
+            refuse(BAD_INDEX, 0)
+        );
     }
 }
 
@@ -166,7 +189,7 @@ fn a_grown_segment() {
             for room in [fresh.len(), fresh.len() + 3, fresh.len() + to] {
                 let mut index = vec![UNTOUCHED; room];
                 index[..old.len()].copy_from_slice(&old);
-                let length = extend(&segment[..to], &mut index, old.len());
+                let length = extend(Version::One, &segment[..to], &mut index, old.len());
                 assert_eq!(length, Ok(fresh.len()), "{from} to {to}");
                 assert_eq!(index[..fresh.len()], fresh);
                 assert!(index[fresh.len()..].iter().all(|&byte| byte == UNTOUCHED));
@@ -175,7 +198,7 @@ fn a_grown_segment() {
                 let mut index = vec![UNTOUCHED; fresh.len() - 1];
                 index[..old.len()].copy_from_slice(&old);
                 let before = index.clone();
-                let refused = extend(&segment[..to], &mut index, old.len());
+                let refused = extend(Version::One, &segment[..to], &mut index, old.len());
                 assert_eq!(refused, refuse(NO_ROOM, 0));
                 assert_eq!(index, before);
             }
@@ -190,13 +213,19 @@ fn only_an_accepted_index_is_extended() {
     let mut index = [&old[..], &[UNTOUCHED; 40]].concat();
     for used in [0, 11, 12, 19, 21, 28, 60, 61, usize::MAX] {
         let before = index.clone();
-        assert_eq!(extend(&segment, &mut index, used), refuse(BAD_INDEX, 0));
+        assert_eq!(
+            extend(Version::One, &segment, &mut index, used),
+            refuse(BAD_INDEX, 0)
+        );
         assert_eq!(index, before);
     }
     // 29 comes before 11.
     index[3] = 2;
     let short = &mut index[..20];
-    assert_eq!(extend(&segment, short, 20), refuse(BAD_INDEX, 0));
+    assert_eq!(
+        extend(Version::One, &segment, short, 20),
+        refuse(BAD_INDEX, 0)
+    );
 }
 
 #[test]
@@ -219,9 +248,12 @@ fn generated_segments() {
         let used = index.len();
         assert_eq!(built(&segment, rng.below(9)), fresh);
         index.resize(fresh.len() + rng.below(9), UNTOUCHED);
-        assert_eq!(extend(&segment, &mut index, used), Ok(fresh.len()));
+        assert_eq!(
+            extend(Version::One, &segment, &mut index, used),
+            Ok(fresh.len())
+        );
         assert_eq!(index[..fresh.len()], fresh);
-        assert!(check(&segment, &fresh).is_ok());
+        assert!(check(Version::One, &segment, &fresh).is_ok());
     }
 }
 
@@ -259,13 +291,31 @@ fn look_up() {
 #[test]
 fn the_limit() {
     let mut segment = vec![0; SEGMENT_MAX + 1];
-    segment::write(&mut segment[..SEGMENT_MAX], SEGMENT_MAX - PAGE, &[1; 9]).expect("it fits");
+    segment::write(
+        Version::One,
+        &mut segment[..SEGMENT_MAX],
+        SEGMENT_MAX - PAGE,
+        &[1; 9],
+    )
+    .expect("it fits");
     let mut index = [UNTOUCHED; HEAD + ROW];
-    assert_eq!(build(&segment, &mut index), refuse(BAD_BUFFER, 0));
-    assert_eq!(check(&segment, &index), refuse(BAD_BUFFER, 0));
-    assert_eq!(extend(&segment, &mut index, 99), refuse(BAD_BUFFER, 0));
+    assert_eq!(
+        build(Version::One, &segment, &mut index),
+        refuse(BAD_BUFFER, 0)
+    );
+    assert_eq!(check(Version::One, &segment, &index), refuse(BAD_BUFFER, 0));
+    assert_eq!(
+        extend(Version::One, &segment, &mut index, 99),
+        refuse(BAD_BUFFER, 0)
+    );
     assert_eq!(index, [UNTOUCHED; HEAD + ROW]);
-    assert_eq!(build(&segment[..SEGMENT_MAX], &mut index), Ok(20));
-    assert_eq!(check(&segment[..SEGMENT_MAX], &index), Ok(1));
-    assert_eq!(extend(&segment[..SEGMENT_MAX], &mut index, 20), Ok(20));
+    assert_eq!(
+        build(Version::One, &segment[..SEGMENT_MAX], &mut index),
+        Ok(20)
+    );
+    assert_eq!(check(Version::One, &segment[..SEGMENT_MAX], &index), Ok(1));
+    assert_eq!(
+        extend(Version::One, &segment[..SEGMENT_MAX], &mut index, 20),
+        Ok(20)
+    );
 }

@@ -11,6 +11,7 @@ use reference::histogram::{NewHistogram, Spans};
 use reference::refusal::*;
 use reference::replay::{replay, replay_strict, Replayed, Row, Table, SERIES_MAX};
 use reference::segment::{self, Good, Reading, HEADER, PAGE, RECORD_MAX, SEGMENT_MAX};
+use reference::version::Version;
 use rng::Rng;
 use std::collections::BTreeSet;
 
@@ -108,7 +109,7 @@ fn log(bodies: &[Vec<u8>]) -> (Vec<u8>, Vec<usize>) {
     let mut starts = Vec::new();
     for body in bodies {
         starts.push(place);
-        place = segment::write(&mut segment, place, body).expect("it fits");
+        place = segment::write(Version::One, &mut segment, place, body).expect("it fits");
     }
     segment.truncate(place);
     (segment, starts)
@@ -187,11 +188,12 @@ impl Plain {
         let mut state = Plain::default();
         let mut place = 0;
         loop {
-            let record = match segment::read(segment, place, buffer, &mut Good::default()) {
-                Ok(Reading::Record(record)) => record,
-                Ok(Reading::End) => return (state, None),
-                Err(refusal) => return (state, Some(refusal)),
-            };
+            let record =
+                match segment::read(Version::One, segment, place, buffer, &mut Good::default()) {
+                    Ok(Reading::Record(record)) => record,
+                    Ok(Reading::End) => return (state, None),
+                    Err(refusal) => return (state, Some(refusal)),
+                };
             match state.with(&buffer[..record.length]) {
                 Ok(next) => state = next,
                 Err(UNKNOWN_TYPE) if mode == Mode::Default => state.skipped += 1,
@@ -232,8 +234,8 @@ fn compare_as(mode: Mode, segment: &[u8]) -> (Replayed, Vec<Row>) {
     let mut table: Table = [BEFORE; SERIES_MAX];
     let mut buffer = vec![0xAA; RECORD_MAX + 1];
     let replayed = match mode {
-        Mode::Default => replay(segment, &mut buffer, &mut table),
-        Mode::Strict => replay_strict(segment, &mut buffer, &mut table),
+        Mode::Default => replay(Version::One, segment, &mut buffer, &mut table),
+        Mode::Strict => replay_strict(Version::One, segment, &mut buffer, &mut table),
     };
     let mut plain_buffer = vec![0xAA; RECORD_MAX + 1];
     let (plain, refusal) = Plain::replay(mode, segment, &mut plain_buffer);
@@ -704,20 +706,29 @@ fn wrong_lengths() {
     };
     let mut table: Table = [BEFORE; SERIES_MAX];
     let mut short = vec![0xAA; RECORD_MAX - 1];
-    assert_eq!(replay(&segment, &mut short, &mut table), refused);
-    assert_eq!(replay_strict(&segment, &mut short, &mut table), refused);
+    assert_eq!(
+        replay(Version::One, &segment, &mut short, &mut table),
+        refused
+    );
+    assert_eq!(
+        replay_strict(Version::One, &segment, &mut short, &mut table),
+        refused
+    );
     let mut none = [];
-    assert_eq!(replay(&[9], &mut none, &mut table), refused);
+    assert_eq!(replay(Version::One, &[9], &mut none, &mut table), refused);
     assert!(short.iter().all(|&byte| byte == 0xAA));
     let mut buffer = vec![0xAA; RECORD_MAX];
     let mut long = segment;
     long.resize(SEGMENT_MAX + 1, 0);
-    assert_eq!(replay(&long, &mut buffer, &mut table), refused);
+    assert_eq!(
+        replay(Version::One, &long, &mut buffer, &mut table),
+        refused
+    );
     assert!(buffer.iter().all(|&byte| byte == 0xAA));
     assert_eq!(table, [BEFORE; SERIES_MAX]);
     // At the limit it is a log.
     long.pop();
-    let good = replay(&long, &mut buffer, &mut table);
+    let good = replay(Version::One, &long, &mut buffer, &mut table);
     assert_eq!((good.refusal, good.series, good.orphans), (None, 1, 1));
 }
 

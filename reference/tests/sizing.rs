@@ -5,6 +5,7 @@ mod rng;
 use reference::refusal::*;
 use reference::segment::{self, left_in_page, FRAGMENT_MAX, FULL, HEADER, LAST, PAGE, RECORD_MAX};
 use reference::sizing::{fragments_of, pages_for, PAGES_MAX};
+use reference::version::Version;
 use rng::Rng;
 
 /// Writes records of these lengths from 0 into as many pages as they are said to need, holds them to
@@ -16,8 +17,8 @@ fn slack(lengths: &[usize]) -> usize {
     let record = vec![7; RECORD_MAX];
     let (mut place, mut fragments, mut filler) = (0, 0, 0);
     for &length in lengths {
-        let next =
-            segment::write(&mut slice, place, &record[..length]).expect("room for every list");
+        let next = segment::write(Version::One, &mut slice, place, &record[..length])
+            .expect("room for every list");
         let (count, after) = split(&slice, place);
         assert_eq!(count, fragments_of(place, length));
         assert!(count <= 4);
@@ -111,7 +112,7 @@ fn one_record_exactly() {
         }
         slack(&[length]);
         let fewer = PAGE * (pages_for(1, length as u64).expect("a few pages") - 1);
-        let written = segment::write(&mut vec![0; fewer], 0, &record[..length]);
+        let written = segment::write(Version::One, &mut vec![0; fewer], 0, &record[..length]);
         match fewer {
             0 => assert_eq!(length, length.min(FRAGMENT_MAX)),
             _ => assert_eq!(written, refuse(NO_ROOM, 0)),
@@ -155,8 +156,12 @@ fn generated_lists() {
                     .saturating_sub(HEADER * rng.below(3) + rng.below(18))
                     .max(1),
             };
-            let Ok(next) = segment::write(&mut slice, place, &record[..length.min(RECORD_MAX)])
-            else {
+            let Ok(next) = segment::write(
+                Version::One,
+                &mut slice,
+                place,
+                &record[..length.min(RECORD_MAX)],
+            ) else {
                 break;
             };
             place = next;
