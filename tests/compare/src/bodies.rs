@@ -16,6 +16,7 @@ use reference::histogram::{self, Histogram};
 use reference::refusal::Refusal;
 use reference::segment::{self, Good, Reading, RECORD_MAX};
 use reference::varint;
+use reference::version::Version;
 use std::fmt;
 
 pub fn groups() -> Vec<Group> {
@@ -576,7 +577,9 @@ pub fn compare_file(rng: &mut Rng, bytes: &[u8]) -> Outcome {
     let mut bench = Bench::new(rng);
     let mut buffer = vec![0; RECORD_MAX];
     let good = &mut Good::default();
-    while let Ok(Reading::Record(record)) = segment::read(bytes, good.offset, &mut buffer, good) {
+    while let Ok(Reading::Record(record)) =
+        segment::read(Version::One, bytes, good.offset, &mut buffer, good)
+    {
         bench.body.put(&buffer[..record.length]);
         read_record(rng, &mut bench, record.length)?;
     }

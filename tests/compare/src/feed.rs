@@ -10,12 +10,14 @@ pub use corpus::compare_file;
 
 use crate::ffi::feed::{self, State, MORE};
 use crate::ffi::{self, Answer, Pair, END};
+use crate::generate;
 use crate::rng::Rng;
 use crate::twin::Twin;
 use crate::Group;
 use reference::feed::{Feed, Read};
 use reference::refusal::{Refusal, BAD_BUFFER};
 use reference::segment::{Good, PAGE, RECORD_MAX, SEGMENT_MAX};
+use reference::version::Version;
 
 pub fn groups() -> Vec<Group> {
     vec![
@@ -49,10 +51,14 @@ struct Feeds {
     buffer: Twin,
     /// What one slice is read into.
     slice_buffer: Vec<u8>,
+    /// What the pages are read as.
+    version: Version,
     ours: State,
     theirs: Feed,
     /// A read gave no record and no page was taken since: a further read leaves the state.
     settled: bool,
+    /// Decides between the versions.
+    coin: Rng,
     cases: u64,
 }
 
@@ -65,9 +71,11 @@ impl Feeds {
             offer: Twin::new(rng, PAGE + EXCESS),
             buffer: Twin::new(rng, RECORD_MAX + 64),
             slice_buffer: vec![0; RECORD_MAX],
+            version: Version::One,
             ours: [0; feed::STATE_LEN],
-            theirs: Feed::start(),
+            theirs: Feed::start(Version::One),
             settled: false,
+            coin: Rng::new(rng.number()),
             cases: 0,
         }
     }
@@ -85,8 +93,12 @@ impl Feeds {
     /// A fresh state in both; before the first feed the page is an empty one.
     fn start(&mut self) -> Result<(), String> {
         self.cases += 1;
-        self.ours = feed::start().ok_or("start wrote beside the state")?;
-        self.theirs = Feed::start();
+        let started = feed::start(self.version.number() as u32);
+        if started.number != 0 || started.beside {
+            return Err(format!("{:?}: started with {started:?}", self.version));
+        }
+        self.ours = started.out;
+        self.theirs = Feed::start(self.version);
         self.fed = 0;
         self.total = 0;
         self.settled = false;
@@ -146,9 +158,21 @@ impl Feeds {
         Ok(got)
     }
 
-    /// Reads the bytes from their start: a page is fed whenever one is asked for, and every other
-    /// answer is the one of one slice.
+    /// Takes a segment of version 1 over into any version.
+    fn take_version(&mut self, bytes: &mut [u8]) {
+        self.version = generate::any_version(&mut self.coin);
+        generate::resum(self.version, bytes);
+    }
+
+    /// Reads the bytes, in any version, from their start: a page is fed whenever one is asked for,
+    /// and every other answer is the one of one slice.
     fn read_all(&mut self, bytes: &[u8]) -> Result<(), String> {
+        let mut bytes = bytes.to_vec();
+        self.take_version(&mut bytes);
+        self.read_pages(&bytes)
+    }
+
+    fn read_pages(&mut self, bytes: &[u8]) -> Result<(), String> {
         self.start()?;
         let mut place = 0;
         let mut good = [0, 0];
@@ -187,7 +211,8 @@ impl Feeds {
         good: Pair,
         got: Answer<5>,
     ) -> Result<(), String> {
-        let wanted = ffi::read(bytes, place, &mut self.slice_buffer, good);
+        let version = self.version.number() as u32;
+        let wanted = ffi::read(version, bytes, place, &mut self.slice_buffer, good);
         let length = bytes.len();
         if got != wanted {
             return Err(format!(

@@ -6,6 +6,7 @@ pub mod bare;
 mod bodies;
 pub mod feed;
 pub mod index;
+pub mod names;
 pub mod replay;
 
 pub use bodies::{
@@ -147,6 +148,7 @@ pub fn table() -> Option<Box<Table>> {
 
 extern "C" {
     fn depot_wal_write(
+        version: u32,
         segment: *mut u8,
         segment_len: usize,
         place: usize,
@@ -155,6 +157,7 @@ extern "C" {
         out: *mut u64,
     ) -> u32;
     fn depot_wal_read(
+        version: u32,
         segment: *const u8,
         segment_len: usize,
         place: usize,
@@ -165,6 +168,7 @@ extern "C" {
     ) -> u32;
     fn depot_wal_write_with_table(
         table: *const u32,
+        version: u32,
         segment: *mut u8,
         segment_len: usize,
         place: usize,
@@ -174,6 +178,7 @@ extern "C" {
     ) -> u32;
     fn depot_wal_read_with_table(
         table: *const u32,
+        version: u32,
         segment: *const u8,
         segment_len: usize,
         place: usize,
@@ -189,25 +194,36 @@ pub fn pages_for(records: u64, bytes: u64) -> Answer<1> {
     answer(|out| unsafe { depot_wal_pages_for(records, bytes, out) })
 }
 
-pub fn write(segment: &mut [u8], place: usize, record: &[u8]) -> Answer<2> {
+pub fn write(version: u32, segment: &mut [u8], place: usize, record: &[u8]) -> Answer<2> {
     let (length, record_len) = (segment.len(), record.len());
     let (segment, record) = (pointer_mut(segment), pointer(record));
-    answer(|out| unsafe { depot_wal_write(segment, length, place, record, record_len, out) })
+    answer(|out| unsafe {
+        depot_wal_write(version, segment, length, place, record, record_len, out)
+    })
 }
 
 /// `out`, and then the pair that was handed back for the one given.
-pub fn read(segment: &[u8], place: usize, buffer: &mut [u8], good: Pair) -> Answer<5> {
+pub fn read(
+    version: u32,
+    segment: &[u8],
+    place: usize,
+    buffer: &mut [u8],
+    good: Pair,
+) -> Answer<5> {
     let (length, buffer_len) = (segment.len(), buffer.len());
     let (segment, buffer) = (pointer(segment), pointer_mut(buffer));
     with_pair(good, |good| {
         answer(|out| unsafe {
-            depot_wal_read(segment, length, place, buffer, buffer_len, good, out)
+            depot_wal_read(
+                version, segment, length, place, buffer, buffer_len, good, out,
+            )
         })
     })
 }
 
 pub fn write_with_table(
     table: &Table,
+    version: u32,
     segment: &mut [u8],
     place: usize,
     record: &[u8],
@@ -216,12 +232,15 @@ pub fn write_with_table(
     let (segment, record) = (pointer_mut(segment), pointer(record));
     let table = table.as_ptr();
     answer(|out| unsafe {
-        depot_wal_write_with_table(table, segment, length, place, record, record_len, out)
+        depot_wal_write_with_table(
+            table, version, segment, length, place, record, record_len, out,
+        )
     })
 }
 
 pub fn read_with_table(
     table: &Table,
+    version: u32,
     segment: &[u8],
     place: usize,
     buffer: &mut [u8],
@@ -232,7 +251,9 @@ pub fn read_with_table(
     let table = table.as_ptr();
     with_pair(good, |good| {
         answer(|out| unsafe {
-            depot_wal_read_with_table(table, segment, length, place, buffer, buffer_len, good, out)
+            depot_wal_read_with_table(
+                table, version, segment, length, place, buffer, buffer_len, good, out,
+            )
         })
     })
 }

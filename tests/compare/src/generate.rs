@@ -1,14 +1,15 @@
 //! Segments to try: such as the writer makes them, and such as it never would.
 
 use crate::rng::Rng;
-use reference::crc32c;
-use reference::segment::{self, FIRST, FULL, HEADER, LAST, MIDDLE, PAGE, RECORD_MAX};
+use reference::segment::{self, EMPTY, FIRST, FULL, HEADER, LAST, MIDDLE, PAGE, RECORD_MAX};
+use reference::version::Version;
 
 /// Pages of the longest sample.
 pub const PAGES_MAX: usize = 5;
 
-/// A segment and where the things in it are.
+/// A segment and where the things in it are. It is made in version 1.
 pub struct Sample {
+    pub version: Version,
     pub bytes: Vec<u8>,
     /// The place of the first record.
     pub start: usize,
@@ -39,14 +40,15 @@ pub fn written_by(rng: &mut Rng, pages: usize, writes: usize) -> Sample {
     let mut place = 0;
     for _ in 0..writes {
         let length = record_length(rng, segment::left_in_page(place));
-        if let Ok(next) = segment::write(&mut bytes, place, &data[..length]) {
+        if let Ok(next) = segment::write(Version::One, &mut bytes, place, &data[..length]) {
             add_fragments(&mut fragments, &bytes, place);
             place = next;
         }
     }
     bytes.truncate(place);
-    let start = 0;
+    let (version, start) = (Version::One, 0);
     Sample {
+        version,
         bytes,
         start,
         fragments,
@@ -111,6 +113,7 @@ pub fn foreign(rng: &mut Rng, splitting: Splitting) -> Sample {
         maker.add_fragment(rng, wanted);
     }
     Sample {
+        version: Version::One,
         bytes: maker.bytes,
         start,
         fragments: maker.fragments,
@@ -161,7 +164,7 @@ impl Maker {
         let start = self.bytes.len();
         let record = *self.open.get_or_insert(start);
         let data = rng.bytes(length);
-        let mut sum = crc32c::checksum(&data);
+        let mut sum = Version::One.sum(&[], &data);
         if rng.once_in(200) {
             sum ^= 1 << rng.below(32);
         }
@@ -219,30 +222,83 @@ pub fn noise(rng: &mut Rng, bytes: &mut Vec<u8>) {
     }
 }
 
-/// A written or a foreign segment.
+/// A written or a foreign segment, in any version.
 pub fn any_sample(rng: &mut Rng) -> Sample {
     let pages = 1 + rng.below(3);
-    match rng.below(3) {
+    let sample = match rng.below(3) {
         0 | 1 => written(rng, pages),
         _ => foreign(rng, Splitting::Short),
-    }
+    };
+    sample.in_any_version(rng)
 }
 
 /// A foreign segment with a record before its start, so that it can be read from 0.
 pub fn foreign_from_0(rng: &mut Rng, splitting: Splitting) -> Sample {
     let mut sample = foreign(rng, splitting);
     if sample.start >= HEADER {
-        make_fragment(&mut sample.bytes[..sample.start], FULL);
+        make_fragment(Version::One, &mut sample.bytes[..sample.start], FULL);
     }
     sample
 }
 
 /// Makes the bytes, at least 7 and at most a page, one good fragment.
-pub fn make_fragment(bytes: &mut [u8], kind: u8) {
+pub fn make_fragment(version: Version, bytes: &mut [u8], kind: u8) {
     let (header, data) = bytes.split_at_mut(HEADER);
     header[0] = kind;
     header[1..3].copy_from_slice(&(data.len() as u16).to_be_bytes());
-    header[3..].copy_from_slice(&crc32c::checksum(data).to_be_bytes());
+    let sum = version.sum(header, data);
+    header[3..].copy_from_slice(&sum.to_be_bytes());
+}
+
+// ---- Versions ----
+
+/// One of the two.
+pub fn any_version(rng: &mut Rng) -> Version {
+    rng.pick(&[Version::One, Version::Two])
+}
+
+impl Sample {
+    /// In version 1 or 2, with the sums that were wrong wrong again.
+    pub fn in_any_version(mut self, rng: &mut Rng) -> Sample {
+        self.version = any_version(rng);
+        for fragment in &self.fragments {
+            let end = fragment.end.min(self.bytes.len());
+            if fragment.start < end && self.version == Version::Two {
+                resum_fragment(&mut self.bytes[fragment.start..end]);
+            }
+        }
+        self
+    }
+}
+
+/// A segment of version 1 in this version, up to the first fragment that is not good.
+pub fn resum(version: Version, bytes: &mut [u8]) {
+    let mut at = 0;
+    while version == Version::Two && at < bytes.len() {
+        let left = segment::left_in_page(at);
+        if left < HEADER || bytes[at] == EMPTY {
+            at += left;
+            continue;
+        }
+        let end = bytes.len().min(at + left);
+        match resum_fragment(&mut bytes[at..end]) {
+            Some(length) => at += length,
+            None => return,
+        }
+    }
+}
+
+/// Puts the sum of version 2 where a good one of version 1 is, and hands back the fragment's length.
+fn resum_fragment(bytes: &mut [u8]) -> Option<usize> {
+    let (header, rest) = bytes.split_at_mut_checked(HEADER)?;
+    let length = usize::from(u16::from_be_bytes([header[1], header[2]]));
+    let data = rest.get(..length)?;
+    if header[3..] != Version::One.sum(header, data).to_be_bytes() {
+        return None;
+    }
+    let sum = Version::Two.sum(header, data);
+    header[3..].copy_from_slice(&sum.to_be_bytes());
+    Some(HEADER + length)
 }
 
 // ---- Where to cut a sample, and what to change in it ----

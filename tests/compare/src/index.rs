@@ -9,12 +9,14 @@ pub use corpus::compare_file;
 
 use crate::ffi::index;
 use crate::ffi::Answer;
+use crate::generate::{self, PAGES_MAX};
 use crate::rng::Rng;
 use crate::twin::Twin;
 use crate::Group;
 use reference::index::HEAD;
 use reference::refusal::Refusal;
 use reference::segment::{self, Good, Reading, PAGE, RECORD_MAX};
+use reference::version::Version;
 
 pub fn groups() -> Vec<Group> {
     vec![
@@ -32,11 +34,13 @@ pub fn groups() -> Vec<Group> {
 }
 
 /// Bytes of the longest segment, the limit's aside.
-const ROOM: usize = crate::generate::PAGES_MAX * PAGE;
+const ROOM: usize = PAGES_MAX * PAGE;
 
 /// The caller-owned bytes, used again from case to case.
 struct Indexes {
     segment: Twin,
+    /// What it is read as.
+    version: Version,
     index: Twin,
     /// What the segment is read into.
     buffer: Vec<u8>,
@@ -52,16 +56,25 @@ impl Indexes {
     fn with_segment(rng: &mut Rng, segment: Twin, room: usize) -> Indexes {
         Indexes {
             segment,
+            version: Version::One,
             index: Twin::new(rng, room),
             buffer: vec![0; RECORD_MAX],
             cases: 0,
         }
     }
 
-    /// Puts a segment at any alignment, and noise where the index will be.
+    /// Puts a segment of version 1 at any alignment and in any version.
     fn put(&mut self, rng: &mut Rng, bytes: &[u8]) {
+        let version = generate::any_version(rng);
+        self.put_in(rng, version, bytes);
+    }
+
+    fn put_in(&mut self, rng: &mut Rng, version: Version, bytes: &[u8]) {
+        let mut bytes = bytes.to_vec();
+        self.version = version;
+        generate::resum(version, &mut bytes);
         self.segment.shift(rng);
-        self.segment.put(bytes);
+        self.segment.put(&bytes);
         self.index.shift(rng);
         if rng.once_in(8) {
             self.index.refill(rng);
@@ -70,20 +83,25 @@ impl Indexes {
 
     /// Builds the index of the first `length` bytes of the segment in the first `room` of the index.
     fn build(&mut self, length: usize, room: usize) -> Result<Answer<2>, String> {
+        let number = self.version.number() as u32;
         let (ours, theirs) = self.segment.both(0..length);
         let (our_index, their_index) = self.index.both(0..room);
-        let got = index::build(ours, our_index);
-        let wanted = length_answer(0, reference::index::build(theirs, their_index));
+        let got = index::build(number, ours, our_index);
+        let wanted = length_answer(
+            0,
+            reference::index::build(self.version, theirs, their_index),
+        );
         let what = || format!("build of {length} bytes into {room}");
         self.compare(length, got, wanted, what)
     }
 
     /// The first `room` bytes of the index against the first `length` of the segment.
     fn check(&mut self, length: usize, room: usize) -> Result<Answer<1>, String> {
+        let number = self.version.number() as u32;
         let (ours, theirs) = self.segment.both(0..length);
         let (our_index, their_index) = self.index.both(0..room);
-        let got = index::check(ours, our_index);
-        let wanted = match reference::index::check(theirs, their_index) {
+        let got = index::check(number, ours, our_index);
+        let wanted = match reference::index::check(self.version, theirs, their_index) {
             Ok(count) => Answer::new(0, [count as u64]),
             Err(Refusal { number, place }) => Answer::new(number, [place as u64]),
         };
@@ -93,10 +111,11 @@ impl Indexes {
 
     /// Extends the first `used` bytes in the first `room` to the first `length` of the segment.
     fn extend(&mut self, length: usize, room: usize, used: usize) -> Result<Answer<2>, String> {
+        let number = self.version.number() as u32;
         let (ours, theirs) = self.segment.both(0..length);
         let (our_index, their_index) = self.index.both(0..room);
-        let got = index::extend(ours, our_index, used);
-        let wanted = reference::index::extend(theirs, their_index, used);
+        let got = index::extend(number, ours, our_index, used);
+        let wanted = reference::index::extend(self.version, theirs, their_index, used);
         let wanted = length_answer(used, wanted);
         let what = || format!("extension of {used} bytes in {room} to {length}");
         self.compare(length, got, wanted, what)
@@ -124,7 +143,8 @@ impl Indexes {
     ) -> Result<Answer<N>, String> {
         self.cases += 1;
         if got != wanted {
-            return Err(format!("{}: got {got:?}, wanted {wanted:?}", what()));
+            let what = format!("{:?}, {}", self.version, what());
+            return Err(format!("{what}: got {got:?}, wanted {wanted:?}"));
         }
         for (name, twin, end) in [
             ("segment", &self.segment, length),
@@ -168,7 +188,9 @@ impl Indexes {
         let buffer = &mut self.buffer;
         let good = &mut Good::default();
         let mut rows = Vec::new();
-        while let Ok(Reading::Record(record)) = segment::read(bytes, good.offset, buffer, good) {
+        while let Ok(Reading::Record(record)) =
+            segment::read(self.version, bytes, good.offset, buffer, good)
+        {
             rows.push([record.start as u64, record.length as u64]);
         }
         rows

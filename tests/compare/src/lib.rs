@@ -7,11 +7,13 @@ pub mod ffi;
 pub mod fixtures;
 pub mod generate;
 pub mod index;
+pub mod names;
 pub mod replay;
 pub mod rng;
 pub mod rows;
 pub mod segments;
 pub mod twin;
+pub mod versions;
 
 use rng::Rng;
 

@@ -14,6 +14,7 @@ pub use corpus::compare_file;
 
 use crate::ffi::replay::{self, SeriesTable, OUT_LEN, REPLAY_LEN, ROW_LEN};
 use crate::ffi::Answer;
+use crate::generate;
 use crate::rng::Rng;
 use crate::twin::Twin;
 use crate::Group;
@@ -21,6 +22,7 @@ use reference::body::{self, SeriesId, Timestamp, SAMPLES};
 use reference::refusal::{BAD_BUFFER, BAD_RANGE, BAD_VARINT, SHORT, TABLE_FULL, UNKNOWN_TYPE};
 use reference::replay::{Replayed, Row, Table, SERIES_MAX};
 use reference::segment::{self, Good, Reading, RECORD_MAX};
+use reference::version::Version;
 
 pub fn groups() -> Vec<Group> {
     vec![
@@ -56,6 +58,8 @@ enum Mode {
 /// The caller-owned bytes and numbers, used again from case to case.
 struct Replays {
     segment: Twin,
+    /// What it is read as.
+    version: Version,
     buffer: Twin,
     /// What both tables hold before every call.
     noise: Box<SeriesTable>,
@@ -73,6 +77,7 @@ impl Replays {
     fn with_segment(rng: &mut Rng, segment: Twin) -> Replays {
         let mut replays = Replays {
             segment,
+            version: Version::One,
             buffer: Twin::new(rng, RECORD_MAX + 64),
             noise: Box::new([0; REPLAY_LEN]),
             count_buffer: vec![0; RECORD_MAX],
@@ -86,11 +91,14 @@ impl Replays {
         self.noise.fill_with(|| rng.number());
     }
 
-    /// Puts a log into the segment, at any alignment.
+    /// Puts a log of version 1 into the segment, at any alignment and in any version.
     fn put(&mut self, rng: &mut Rng, bytes: &[u8]) {
+        let mut bytes = bytes.to_vec();
+        self.version = generate::any_version(rng);
+        generate::resum(self.version, &mut bytes);
         self.segment.shift(rng);
         self.buffer.shift(rng);
-        self.segment.put(bytes);
+        self.segment.put(&bytes);
         if rng.once_in(8) {
             self.buffer.refill(rng);
             self.refill_table(rng);
@@ -126,14 +134,15 @@ impl Replays {
         let (our_buffer, their_buffer) = self.buffer.both(0..room);
         let mut table = *self.noise;
         let mut rows = rows_of(&self.noise);
+        let (version, number) = (self.version, self.version.number() as u32);
         let (got, wanted) = match mode {
             Mode::Default => (
-                replay::replay(ours, our_buffer, &mut table),
-                reference::replay::replay(theirs, their_buffer, &mut rows),
+                replay::replay(number, ours, our_buffer, &mut table),
+                reference::replay::replay(version, theirs, their_buffer, &mut rows),
             ),
             Mode::Strict => (
-                replay::replay_strict(ours, our_buffer, &mut table),
-                reference::replay::replay_strict(theirs, their_buffer, &mut rows),
+                replay::replay_strict(number, ours, our_buffer, &mut table),
+                reference::replay::replay_strict(version, theirs, their_buffer, &mut rows),
             ),
         };
         self.compare_answers(got, replay_answer(&wanted))
@@ -143,7 +152,8 @@ impl Replays {
             .and_then(|()| self.count_again(mode, length, got, &table))
             .map_err(|why| {
                 let log = self.segment.bytes(0..length.min(SHOWN));
-                let what = format!("{mode:?} replay of {length} bytes into {room}");
+                let what =
+                    format!("{mode:?} replay of {length} bytes into {room}, version {number}");
                 format!("{what}: {why}; the log is {log:02X?}")
             })?;
         Ok(got)
@@ -211,7 +221,9 @@ impl Replays {
         let bytes = self.segment.bytes(0..length);
         let buffer = &mut self.count_buffer;
         let good = &mut Good::default();
-        while let Ok(Reading::Record(record)) = segment::read(bytes, good.offset, buffer, good) {
+        while let Ok(Reading::Record(record)) =
+            segment::read(self.version, bytes, good.offset, buffer, good)
+        {
             if refused == Some(record.start) {
                 return Ok(counts);
             }

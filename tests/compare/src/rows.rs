@@ -38,7 +38,7 @@ fn library_rows(segment: &[u8]) -> Result<String, String> {
     let mut place = 0;
     let mut good = [0, 0];
     loop {
-        let answer = ffi::read(segment, place, &mut buffer, good);
+        let answer = ffi::read(1, segment, place, &mut buffer, good);
         if answer.number != 0 {
             return Ok(lines);
         }

@@ -8,13 +8,15 @@ mod zeros;
 use crate::checksums::{fill_with_noise, own_table};
 use crate::ffi::{self, Answer, Table, END};
 use crate::generate::{
-    self, any_buffer, any_cut, any_sample, some_fragments, tail_end, Fragment, Sample, Splitting,
+    self, any_buffer, any_cut, any_sample, any_version, some_fragments, tail_end, Fragment, Sample,
+    Splitting,
 };
 use crate::rng::Rng;
 use crate::twin::Twin;
 use crate::{Group, Outcome};
 use reference::refusal::Refusal;
 use reference::segment::{self, Good, Reading, HEADER, PAGE, RECORD_MAX, SEGMENT_MAX};
+use reference::version::Version;
 
 pub fn groups() -> Vec<Group> {
     vec![
@@ -47,6 +49,8 @@ const PAGES: usize = generate::PAGES_MAX;
 /// The caller-owned bytes, used again from case to case.
 struct Bench {
     segment: Twin,
+    /// What it is written and read as.
+    version: Version,
     buffer: Twin,
     /// Noise to take the records from.
     records: Twin,
@@ -70,6 +74,7 @@ impl Bench {
         let cases = 0;
         Bench {
             segment,
+            version: Version::One,
             buffer,
             records,
             table,
@@ -78,11 +83,12 @@ impl Bench {
         }
     }
 
-    /// Puts a sample into the segment, at any alignment.
+    /// Puts a sample into the segment, at any alignment; it is read as the version that it has.
     fn put(&mut self, rng: &mut Rng, sample: &Sample) {
         self.segment.shift(rng);
         self.buffer.shift(rng);
         self.segment.put(&sample.bytes);
+        self.version = sample.version;
         if rng.once_in(8) {
             self.buffer.refill(rng);
         }
@@ -115,18 +121,19 @@ impl Bench {
         self.cases += 1;
         let pair = [given.records, given.offset as u64];
         let mut good = given;
+        let version = self.version.number() as u32;
         let (ours, theirs) = self.segment.both(0..length);
         let (our_buffer, their_buffer) = self.buffer.both(0..buffer);
         let got = if lent {
-            ffi::read_with_table(&self.table, ours, place, our_buffer, pair)
+            ffi::read_with_table(&self.table, version, ours, place, our_buffer, pair)
         } else {
-            ffi::read(ours, place, our_buffer, pair)
+            ffi::read(version, ours, place, our_buffer, pair)
         };
-        let wanted = segment::read(theirs, place, their_buffer, &mut good);
+        let wanted = segment::read(self.version, theirs, place, their_buffer, &mut good);
         let wanted = read_answer(wanted, good);
         let what = || {
             let what = format!("read at {place} of {length} bytes into {buffer}, table {lent}");
-            format!("{what}, pair {given:?}")
+            format!("version {version}, {what}, pair {given:?}")
         };
         self.compare((length, place), got, wanted, what)?;
         Ok(wanted)
@@ -137,15 +144,20 @@ impl Bench {
         let lent = self.coin.once_in(2);
         self.cases += 1;
         let start = self.cases as usize % 64;
+        let version = self.version.number() as u32;
         let (our_record, their_record) = self.records.both(start..start + size);
         let (ours, theirs) = self.segment.both(0..length);
         let got = if lent {
-            ffi::write_with_table(&self.table, ours, place, our_record)
+            ffi::write_with_table(&self.table, version, ours, place, our_record)
         } else {
-            ffi::write(ours, place, our_record)
+            ffi::write(version, ours, place, our_record)
         };
-        let wanted = write_answer(place, segment::write(theirs, place, their_record));
-        let what = || format!("write of {size} at {place} of {length} bytes, table {lent}");
+        let wanted = segment::write(self.version, theirs, place, their_record);
+        let wanted = write_answer(place, wanted);
+        let what = || {
+            let what = format!("write of {size} at {place} of {length} bytes, table {lent}");
+            format!("version {version}, {what}")
+        };
         self.compare((length, place), got, wanted, what)?;
         Ok(wanted)
     }
@@ -274,6 +286,7 @@ fn any_length(rng: &mut Rng, length: usize, place: usize) -> usize {
 fn compare_writes(rng: &mut Rng) -> Outcome {
     let mut bench = Bench::new(rng);
     for _ in 0..120_000 {
+        bench.version = any_version(rng);
         let length = PAGE * (1 + rng.below(3));
         let place = any_place(rng, length);
         let size = any_length(rng, length, place);
@@ -293,6 +306,7 @@ fn compare_write_lists(rng: &mut Rng) -> Outcome {
     for _ in 0..200 {
         bench.segment.refill(rng);
         bench.segment.shift(rng);
+        bench.version = any_version(rng);
         let length = PAGE * (1 + rng.below(PAGES));
         let place = write_list(rng, &mut bench, length)?;
         bench.read_on(place, 0)?;
@@ -315,6 +329,7 @@ fn write_list(rng: &mut Rng, bench: &mut Bench, length: usize) -> Result<usize, 
 fn compare_bad_slices(rng: &mut Rng) -> Outcome {
     let mut bench = Bench::new(rng);
     for _ in 0..20_000 {
+        bench.version = any_version(rng);
         let length = match rng.below(4) {
             0 => 0,
             1 => rng.below(40),
@@ -353,9 +368,12 @@ const BACK: [usize; 10] = [
 fn compare_write_limit(rng: &mut Rng) -> Outcome {
     let segment = Twin::zeroed(rng, SEGMENT_MAX + PAGE);
     let mut bench = Bench::with_segment(rng, segment);
-    for length in NEAR_LIMIT.repeat(2) {
-        write_near_limit(&mut bench, length)?;
-        write_past_limit(&mut bench, length)?;
+    for version in [Version::One, Version::Two] {
+        bench.version = version;
+        for length in NEAR_LIMIT {
+            write_near_limit(&mut bench, length)?;
+            write_past_limit(&mut bench, length)?;
+        }
     }
     whole_equal(&bench)
 }
@@ -392,7 +410,7 @@ fn compare_written(rng: &mut Rng) -> Outcome {
     let mut bench = Bench::new(rng);
     for _ in 0..300 {
         let pages = 1 + rng.below(PAGES);
-        let sample = generate::written(rng, pages);
+        let sample = generate::written(rng, pages).in_any_version(rng);
         bench.put(rng, &sample);
         let length = sample.bytes.len();
         bench.read_on(length, 0)?;
@@ -487,7 +505,7 @@ fn compare_tails(rng: &mut Rng) -> Outcome {
     let mut bench = Bench::new(rng);
     let zeros = vec![0; PAGES * PAGE];
     for _ in 0..3_000 {
-        let mut sample = generate::foreign(rng, Splitting::Short);
+        let mut sample = generate::foreign(rng, Splitting::Short).in_any_version(rng);
         let cut = any_cut(rng, &sample);
         sample.bytes.truncate(cut);
         let length = tail_end(rng, sample.bytes.len()).min(PAGES * PAGE);
@@ -528,7 +546,7 @@ fn compare_foreign_long(rng: &mut Rng) -> Outcome {
 fn compare_splitting(rng: &mut Rng, splitting: Splitting, samples: usize) -> Outcome {
     let mut bench = Bench::new(rng);
     for _ in 0..samples {
-        let sample = generate::foreign(rng, splitting);
+        let sample = generate::foreign(rng, splitting).in_any_version(rng);
         bench.put(rng, &sample);
         let length = sample.bytes.len();
         bench.read_on(length, sample.start.min(length))?;
@@ -566,6 +584,7 @@ fn compare_noise(rng: &mut Rng) -> Outcome {
             _ => 0,
         };
         bench.segment.put_at(origin, &bytes);
+        bench.version = any_version(rng);
         let length = origin + bytes.len();
         let place = origin + rng.below(bytes.len() + 1);
         bench.read(length, place)?;
@@ -607,11 +626,16 @@ fn compare_read_limit(rng: &mut Rng) -> Outcome {
     let segment = Twin::zeroed(rng, SEGMENT_MAX + PAGE);
     let mut bench = Bench::with_segment(rng, segment);
     let mut record = [37; HEADER + 1];
-    generate::make_fragment(&mut record, segment::FULL);
-    bench.segment.put_at(LAST_PAGE, &record);
-    bench.segment.put_at(LAST_PAGE + 8, &[2, 0, 0, 0, 0, 0, 0]);
-    for length in NEAR_LIMIT.repeat(2) {
-        read_near_limit(&mut bench, length)?;
+    let mut open = [0; HEADER];
+    for version in [Version::One, Version::Two] {
+        bench.version = version;
+        generate::make_fragment(version, &mut record, segment::FULL);
+        generate::make_fragment(version, &mut open, segment::FIRST);
+        bench.segment.put_at(LAST_PAGE, &record);
+        bench.segment.put_at(LAST_PAGE + 8, &open);
+        for length in NEAR_LIMIT {
+            read_near_limit(&mut bench, length)?;
+        }
     }
     whole_equal(&bench)
 }
@@ -637,16 +661,21 @@ fn read_near_limit(bench: &mut Bench, length: usize) -> Result<(), String> {
     Ok(())
 }
 
-/// A real segment, read whole, cut anywhere, and from any place.
+/// A real segment, as it is and in version 2: read whole, cut anywhere, and from any place.
 pub fn compare_file(rng: &mut Rng, bytes: &[u8]) -> Outcome {
     let segment = Twin::new(rng, bytes.len());
     let mut bench = Bench::with_segment(rng, segment);
-    bench.segment.put(bytes);
-    bench.read_on(bytes.len(), 0)?;
-    for _ in 0..20 {
-        bench.read_on(rng.below(bytes.len() + 1), 0)?;
+    for version in [Version::One, Version::Two] {
+        let mut bytes = bytes.to_vec();
+        generate::resum(version, &mut bytes);
+        bench.version = version;
+        bench.segment.put(&bytes);
+        bench.read_on(bytes.len(), 0)?;
+        for _ in 0..20 {
+            bench.read_on(rng.below(bytes.len() + 1), 0)?;
+        }
+        read_anywhere(rng, &mut bench, bytes.len(), 1_000)?;
     }
-    read_anywhere(rng, &mut bench, bytes.len(), 1_000)?;
     Ok(bench.cases)
 }
 
@@ -658,6 +687,7 @@ fn compare_strange_tables(rng: &mut Rng) -> Outcome {
     let mut bench = Bench::new(rng);
     for _ in 0..3_000 {
         fill_with_noise(rng, &mut bench.table);
+        bench.version = any_version(rng);
         let length = PAGE * (1 + rng.below(3));
         let place = any_place(rng, length);
         let size = any_length(rng, length, place);
@@ -676,8 +706,10 @@ fn strange_write(
     bench.cases += 1;
     let (our_record, their_record) = bench.records.both(0..size);
     let (ours, theirs) = bench.segment.both(0..length);
-    let got = ffi::write_with_table(&bench.table, ours, place, our_record);
-    let wanted = write_answer(place, segment::write(theirs, place, their_record));
+    let version = bench.version.number() as u32;
+    let got = ffi::write_with_table(&bench.table, version, ours, place, our_record);
+    let wanted = segment::write(bench.version, theirs, place, their_record);
+    let wanted = write_answer(place, wanted);
     if wanted.number == 0 {
         copy_sums(ours, theirs, place);
     }
@@ -702,7 +734,8 @@ fn strange_read(bench: &mut Bench, length: usize, place: usize) -> Result<(), St
     bench.cases += 1;
     let (ours, _) = bench.segment.both(0..length);
     let (our_buffer, their_buffer) = bench.buffer.both(0..RECORD_MAX);
-    let got = ffi::read_with_table(&bench.table, ours, place, our_buffer, [0, 0]);
+    let version = bench.version.number() as u32;
+    let got = ffi::read_with_table(&bench.table, version, ours, place, our_buffer, [0, 0]);
     if got.number == 0 {
         let filled = (got.out[1] as usize).min(RECORD_MAX);
         their_buffer[..filled].copy_from_slice(&our_buffer[..filled]);

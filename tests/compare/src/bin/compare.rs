@@ -2,7 +2,8 @@
 //! on the real segments of a folder; nonzero on the first difference, with the seed and the case.
 
 use compare::rng::Rng;
-use compare::{bodies, checksums, feed, fixtures, index, replay, rows, segments, Group, Outcome};
+use compare::{bodies, checksums, feed, fixtures, index, names, replay, rows, segments, versions};
+use compare::{Group, Outcome};
 use std::io::Write;
 use std::path::Path;
 use std::process::ExitCode;
@@ -57,6 +58,8 @@ fn groups() -> Vec<Group> {
         bodies::groups(),
         replay::groups(),
         index::groups(),
+        versions::groups(),
+        names::groups(),
     ]
     .concat()
 }

@@ -6,6 +6,7 @@ use compare::generate::{self, Splitting};
 use compare::rng::Rng;
 use reference::listing::{list_segment, text, INPUT_MAX};
 use reference::segment::{self, FRAGMENT_MAX, LAST, MIDDLE, PAGE, RECORD_MAX};
+use reference::version::Version;
 use std::io::{self, Read, Write};
 use std::path::Path;
 use std::process::{Child, Command, ExitCode, Stdio};
@@ -99,6 +100,10 @@ fn short_input(rng: &mut Rng, case: u64) -> Vec<u8> {
         bytes.resize(bytes.len() + rng.below(4 * PAGE), 0);
     }
     bytes.truncate(2 * PAGE);
+    // The listing reads version 1.
+    if rng.once_in(12) {
+        generate::resum(Version::Two, &mut bytes);
+    }
     if rng.once_in(4) && !bytes.is_empty() {
         let place = rng.below(bytes.len());
         bytes[place] = rng.byte();
@@ -142,7 +147,7 @@ fn long_input(rng: &mut Rng, case: u64) -> Vec<u8> {
 fn filled(bytes: usize, record: usize) -> Vec<u8> {
     let mut segment = vec![0; bytes];
     let mut place = 0;
-    while let Ok(next) = segment::write(&mut segment, place, &RECORD[..record]) {
+    while let Ok(next) = segment::write(Version::One, &mut segment, place, &RECORD[..record]) {
         place = next;
     }
     segment
@@ -191,8 +196,13 @@ fn compare_limit(program: &str) -> Result<u64, String> {
 }
 
 fn put(input: &mut [u8], place: usize, record: usize) -> Result<usize, String> {
-    segment::write(&mut input[..INPUT_MAX], place, &RECORD[..record])
-        .map_err(|why| format!("{why:?}"))
+    segment::write(
+        Version::One,
+        &mut input[..INPUT_MAX],
+        place,
+        &RECORD[..record],
+    )
+    .map_err(|why| format!("{why:?}"))
 }
 
 fn compare_ending(program: &str, input: &[u8], ending: &str) -> Result<(), String> {

@@ -6,6 +6,7 @@ use crate::generate::{self, any_cut, some_fragments, tail_end, Sample, Splitting
 use crate::rng::Rng;
 use crate::Outcome;
 use reference::segment::{FIRST, FULL, HEADER, PAGE};
+use reference::version::Version;
 
 /// Written segments, also with zeros up to a page's end: then an empty page ends the feed.
 pub fn compare_written(rng: &mut Rng) -> Outcome {
@@ -167,7 +168,8 @@ pub fn compare_noise(rng: &mut Rng) -> Outcome {
         };
         let mut bytes = rng.bytes(before);
         if before > 0 {
-            generate::make_fragment(&mut bytes, rng.pick(&[FULL, FIRST]));
+            let kind = rng.pick(&[FULL, FIRST]);
+            generate::make_fragment(Version::One, &mut bytes, kind);
         }
         bytes.extend(&noise);
         feeds.read_all(&bytes)?;

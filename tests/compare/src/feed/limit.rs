@@ -5,6 +5,7 @@ use crate::rng::Rng;
 use crate::Outcome;
 use reference::refusal::{BAD_BUFFER, BAD_PLACE, NOT_ZERO};
 use reference::segment::{self, FRAGMENT_MAX, MIDDLE, PAGE, SEGMENT_MAX};
+use reference::version::Version;
 
 const LAST_PAGE: usize = SEGMENT_MAX - PAGE;
 
@@ -41,7 +42,7 @@ pub fn compare_limit(rng: &mut Rng) -> Outcome {
 }
 
 fn write(bytes: &mut [u8], place: usize, record: &[u8]) -> Result<usize, String> {
-    segment::write(bytes, place, record).map_err(|why| format!("{why:?}"))
+    segment::write(Version::One, bytes, place, record).map_err(|why| format!("{why:?}"))
 }
 
 /// Reads 4,096 whole pages, and the empty one after them.

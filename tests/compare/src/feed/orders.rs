@@ -10,7 +10,8 @@ use reference::segment::{PAGE, RECORD_MAX};
 pub fn compare_orders(rng: &mut Rng) -> Outcome {
     let mut feeds = Feeds::new(rng);
     for _ in 0..9_000 {
-        let bytes = any_bytes(rng);
+        let mut bytes = any_bytes(rng);
+        feeds.take_version(&mut bytes);
         feeds.shift(rng);
         feeds.start()?;
         for _ in 0..rng.below(60) {

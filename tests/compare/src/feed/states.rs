@@ -101,9 +101,11 @@ impl Trial {
 
     /// A state after some calls over a segment; the page that it is about is in `page`.
     fn hand_out(&mut self, rng: &mut Rng) -> Result<State, String> {
-        let bytes = any_bytes(rng);
+        let mut bytes = any_bytes(rng);
+        let version = generate::any_version(rng);
+        generate::resum(version, &mut bytes);
         let mut pages = bytes.chunks(PAGE);
-        let mut state = feed::start().ok_or("start wrote beside the state")?;
+        let mut state = feed::start(version.number() as u32).out;
         self.fed = 0;
         for _ in 0..rng.below(16) {
             if self.read(&mut state, self.fed, RECORD_MAX)?.number == MORE && !rng.once_in(8) {

@@ -25,14 +25,31 @@ pub fn crc32c_with_table(table: &Table, data: &[u8]) -> u32 {
 // ---- Segments ----
 
 #[inline]
-pub fn write(segment: &mut [u8], place: usize, record: &[u8], out: &mut [u64; 2]) -> u32 {
+pub fn write(
+    version: u32,
+    segment: &mut [u8],
+    place: usize,
+    record: &[u8],
+    out: &mut [u64; 2],
+) -> u32 {
     let (length, bytes) = (segment.len(), segment.as_mut_ptr());
     let (data, data_len) = (record.as_ptr(), record.len());
-    unsafe { depot_wal_write(bytes, length, place, data, data_len, out.as_mut_ptr()) }
+    unsafe {
+        depot_wal_write(
+            version,
+            bytes,
+            length,
+            place,
+            data,
+            data_len,
+            out.as_mut_ptr(),
+        )
+    }
 }
 
 #[inline]
 pub fn read(
+    version: u32,
     segment: &[u8],
     place: usize,
     buffer: &mut [u8],
@@ -42,12 +59,13 @@ pub fn read(
     let (length, bytes) = (segment.len(), segment.as_ptr());
     let (room, room_len) = (buffer.as_mut_ptr(), buffer.len());
     let (good, out) = (good.as_mut_ptr(), out.as_mut_ptr());
-    unsafe { depot_wal_read(bytes, length, place, room, room_len, good, out) }
+    unsafe { depot_wal_read(version, bytes, length, place, room, room_len, good, out) }
 }
 
 #[inline]
 pub fn write_with_table(
     table: &Table,
+    version: u32,
     segment: &mut [u8],
     place: usize,
     record: &[u8],
@@ -56,12 +74,13 @@ pub fn write_with_table(
     let (length, bytes) = (segment.len(), segment.as_mut_ptr());
     let (data, data_len) = (record.as_ptr(), record.len());
     let (table, out) = (table.as_ptr(), out.as_mut_ptr());
-    unsafe { depot_wal_write_with_table(table, bytes, length, place, data, data_len, out) }
+    unsafe { depot_wal_write_with_table(table, version, bytes, length, place, data, data_len, out) }
 }
 
 #[inline]
 pub fn read_with_table(
     table: &Table,
+    version: u32,
     segment: &[u8],
     place: usize,
     buffer: &mut [u8],
@@ -71,14 +90,18 @@ pub fn read_with_table(
     let (length, bytes) = (segment.len(), segment.as_ptr());
     let (room, room_len) = (buffer.as_mut_ptr(), buffer.len());
     let (table, good, out) = (table.as_ptr(), good.as_mut_ptr(), out.as_mut_ptr());
-    unsafe { depot_wal_read_with_table(table, bytes, length, place, room, room_len, good, out) }
+    unsafe {
+        depot_wal_read_with_table(
+            table, version, bytes, length, place, room, room_len, good, out,
+        )
+    }
 }
 
 // ---- The page feed ----
 
 #[inline]
-pub fn feed_start(state: &mut Feed) {
-    unsafe { depot_wal_feed_start(state.as_mut_ptr()) }
+pub fn feed_start(state: &mut Feed, version: u32) -> u32 {
+    unsafe { depot_wal_feed_start(state.as_mut_ptr(), version) }
 }
 
 #[inline]
@@ -99,6 +122,7 @@ pub fn feed_read(state: &mut Feed, page: &[u8], buffer: &mut [u8], out: &mut [u6
 
 #[inline]
 pub fn replay(
+    version: u32,
     segment: &[u8],
     buffer: &mut [u8],
     table: &mut SeriesTable,
@@ -107,16 +131,16 @@ pub fn replay(
     let (length, bytes) = (segment.len(), segment.as_ptr());
     let (room, room_len) = (buffer.as_mut_ptr(), buffer.len());
     let (table, out) = (table.as_mut_ptr(), out.as_mut_ptr());
-    unsafe { depot_wal_replay(bytes, length, room, room_len, table, out) }
+    unsafe { depot_wal_replay(version, bytes, length, room, room_len, table, out) }
 }
 
 // ---- The index ----
 
 #[inline]
-pub fn index_build(segment: &[u8], index: &mut [u8], out: &mut [u64; 2]) -> u32 {
+pub fn index_build(version: u32, segment: &[u8], index: &mut [u8], out: &mut [u64; 2]) -> u32 {
     let (length, bytes) = (segment.len(), segment.as_ptr());
     let (room, room_len) = (index.as_mut_ptr(), index.len());
-    unsafe { depot_wal_index_build(bytes, length, room, room_len, out.as_mut_ptr()) }
+    unsafe { depot_wal_index_build(version, bytes, length, room, room_len, out.as_mut_ptr()) }
 }
 
 // ---- Bodies ----

@@ -11,7 +11,7 @@ pub type State = [u64; STATE_LEN];
 pub const MORE: u32 = 201;
 
 extern "C" {
-    pub(super) fn depot_wal_feed_start(state: *mut u64);
+    pub(super) fn depot_wal_feed_start(state: *mut u64, version: u32) -> u32;
     pub(super) fn depot_wal_feed_page(
         state: *mut u64,
         page: *const u8,
@@ -28,11 +28,9 @@ extern "C" {
     ) -> u32;
 }
 
-/// A fresh state, made in place of a pattern; `None` if something was written beside it.
-pub fn start() -> Option<State> {
-    let mut lent = Guarded::new([PATTERN; STATE_LEN]);
-    unsafe { depot_wal_feed_start(lent.out.as_mut_ptr()) };
-    (!lent.beside()).then_some(lent.out)
+/// The number, and a fresh state made in place of a pattern.
+pub fn start(version: u32) -> Answer<STATE_LEN> {
+    answer(|state| unsafe { depot_wal_feed_start(state, version) })
 }
 
 /// The place, and the pair.

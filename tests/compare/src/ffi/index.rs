@@ -4,6 +4,7 @@ use super::*;
 
 extern "C" {
     pub(super) fn depot_wal_index_build(
+        version: u32,
         segment: *const u8,
         segment_len: usize,
         index: *mut u8,
@@ -11,6 +12,7 @@ extern "C" {
         out: *mut u64,
     ) -> u32;
     fn depot_wal_index_check(
+        version: u32,
         segment: *const u8,
         segment_len: usize,
         index: *const u8,
@@ -18,6 +20,7 @@ extern "C" {
         out: *mut u64,
     ) -> u32;
     fn depot_wal_index_extend(
+        version: u32,
         segment: *const u8,
         segment_len: usize,
         index: *mut u8,
@@ -29,24 +32,26 @@ extern "C" {
 }
 
 /// Bytes of the index.
-pub fn build(segment: &[u8], index: &mut [u8]) -> Answer<2> {
+pub fn build(version: u32, segment: &[u8], index: &mut [u8]) -> Answer<2> {
     let (length, room) = (segment.len(), index.len());
     let (segment, index) = (pointer(segment), pointer_mut(index));
-    answer(|out| unsafe { depot_wal_index_build(segment, length, index, room, out) })
+    answer(|out| unsafe { depot_wal_index_build(version, segment, length, index, room, out) })
 }
 
 /// The records that it lists.
-pub fn check(segment: &[u8], index: &[u8]) -> Answer<1> {
+pub fn check(version: u32, segment: &[u8], index: &[u8]) -> Answer<1> {
     let (length, room) = (segment.len(), index.len());
     let (segment, index) = (pointer(segment), pointer(index));
-    answer(|out| unsafe { depot_wal_index_check(segment, length, index, room, out) })
+    answer(|out| unsafe { depot_wal_index_check(version, segment, length, index, room, out) })
 }
 
 /// Bytes of the grown index.
-pub fn extend(segment: &[u8], index: &mut [u8], used: usize) -> Answer<2> {
+pub fn extend(version: u32, segment: &[u8], index: &mut [u8], used: usize) -> Answer<2> {
     let (length, room) = (segment.len(), index.len());
     let (segment, index) = (pointer(segment), pointer_mut(index));
-    answer(|out| unsafe { depot_wal_index_extend(segment, length, index, room, used, out) })
+    answer(|out| unsafe {
+        depot_wal_index_extend(version, segment, length, index, room, used, out)
+    })
 }
 
 /// Start and length.

@@ -14,11 +14,12 @@ pub type SeriesTable = [u64; REPLAY_LEN];
 /// the offset after the last.
 pub const OUT_LEN: usize = 6;
 
-/// A replay: the segment, the buffer, the table, `out`.
-type Call = unsafe extern "C" fn(*const u8, usize, *mut u8, usize, *mut u64, *mut u64) -> u32;
+/// A replay: the version, the segment, the buffer, the table, `out`.
+type Call = unsafe extern "C" fn(u32, *const u8, usize, *mut u8, usize, *mut u64, *mut u64) -> u32;
 
 extern "C" {
     pub(super) fn depot_wal_replay(
+        version: u32,
         segment: *const u8,
         segment_len: usize,
         buffer: *mut u8,
@@ -27,6 +28,7 @@ extern "C" {
         out: *mut u64,
     ) -> u32;
     fn depot_wal_replay_strict(
+        version: u32,
         segment: *const u8,
         segment_len: usize,
         buffer: *mut u8,
@@ -36,20 +38,27 @@ extern "C" {
     ) -> u32;
 }
 
-pub fn replay(segment: &[u8], buffer: &mut [u8], table: &mut SeriesTable) -> Answer<OUT_LEN> {
-    replay_by(depot_wal_replay, segment, buffer, table)
-}
-
-pub fn replay_strict(
+pub fn replay(
+    version: u32,
     segment: &[u8],
     buffer: &mut [u8],
     table: &mut SeriesTable,
 ) -> Answer<OUT_LEN> {
-    replay_by(depot_wal_replay_strict, segment, buffer, table)
+    replay_by(depot_wal_replay, version, segment, buffer, table)
+}
+
+pub fn replay_strict(
+    version: u32,
+    segment: &[u8],
+    buffer: &mut [u8],
+    table: &mut SeriesTable,
+) -> Answer<OUT_LEN> {
+    replay_by(depot_wal_replay_strict, version, segment, buffer, table)
 }
 
 fn replay_by(
     call: Call,
+    version: u32,
     segment: &[u8],
     buffer: &mut [u8],
     table: &mut SeriesTable,
@@ -57,6 +66,6 @@ fn replay_by(
     let (length, buffer_len) = (segment.len(), buffer.len());
     let (segment, buffer) = (pointer(segment), pointer_mut(buffer));
     lend(table, |table| {
-        answer(|out| unsafe { call(segment, length, buffer, buffer_len, table, out) })
+        answer(|out| unsafe { call(version, segment, length, buffer, buffer_len, table, out) })
     })
 }

@@ -8,6 +8,7 @@ use crate::Outcome;
 use reference::index::HEAD;
 use reference::refusal::{BAD_INDEX, NO_ROOM};
 use reference::segment::PAGE;
+use reference::version::Version;
 
 /// Written and foreign segments, read from their start.
 fn any_sample(rng: &mut Rng) -> Sample {
@@ -128,7 +129,7 @@ pub fn compare_damage(rng: &mut Rng) -> Outcome {
         for fragment in some_fragments(rng, &sample).into_iter().take(8) {
             for (place, byte) in generate::damages(rng, &sample, fragment) {
                 let used = indexes.build(whole, HEAD + whole)?.out[0] as usize;
-                let old = sample.bytes[place];
+                let old = indexes.segment.bytes(place..place + 1)[0];
                 indexes.segment.put_at(place, &[byte]);
                 indexes.check(whole, used)?;
                 indexes.extend(whole, used, used)?;
@@ -154,18 +155,18 @@ pub fn compare_noise(rng: &mut Rng) -> Outcome {
     Ok(indexes.cases)
 }
 
-/// A real segment, whole and cut anywhere, and its index extended.
+/// A real segment, as it is and in version 2: whole, cut anywhere, and its index extended.
 pub fn compare_file(rng: &mut Rng, bytes: &[u8]) -> Outcome {
     let whole = bytes.len();
     let segment = Twin::new(rng, whole);
     let mut indexes = Indexes::with_segment(rng, segment, HEAD + whole + 64);
-    indexes.segment.put(bytes);
-    for cut in [whole, 0]
-        .into_iter()
-        .chain([(); 20].map(|()| rng.below(whole + 1)))
-    {
-        let used = indexes.build_whole(cut, whole)?;
-        indexes.extend(whole, HEAD + whole, used)?;
+    for version in [Version::One, Version::Two] {
+        indexes.put_in(rng, version, bytes);
+        let cuts = [(); 20].map(|()| rng.below(whole + 1));
+        for cut in [whole, 0].into_iter().chain(cuts) {
+            let used = indexes.build_whole(cut, whole)?;
+            indexes.extend(whole, HEAD + whole, used)?;
+        }
     }
     Ok(indexes.cases)
 }

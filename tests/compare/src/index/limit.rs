@@ -7,6 +7,7 @@ use crate::Outcome;
 use reference::index::{HEAD, ROW};
 use reference::refusal::{BAD_BUFFER, BAD_INDEX};
 use reference::segment::{self, FRAGMENT_MAX, PAGE, SEGMENT_MAX};
+use reference::version::Version;
 
 const LAST_PAGE: usize = SEGMENT_MAX - PAGE;
 
@@ -24,6 +25,7 @@ pub fn compare_limit(rng: &mut Rng) -> Outcome {
     let count = indexed_records(&segment);
     let room = HEAD + ROW * (count + 2);
     let mut indexes = Indexes::with_segment(rng, segment, room);
+    indexes.version = Version::Two;
     for (length, number) in [
         (LAST_PAGE, 0),
         (SEGMENT_MAX - 1, 0),
@@ -37,13 +39,13 @@ pub fn compare_limit(rng: &mut Rng) -> Outcome {
 }
 
 fn write(bytes: &mut [u8], place: usize, record: &[u8]) -> Result<usize, String> {
-    segment::write(bytes, place, record).map_err(|why| format!("{why:?}"))
+    segment::write(Version::Two, bytes, place, record).map_err(|why| format!("{why:?}"))
 }
 
 /// As the second program counts them.
 fn indexed_records(segment: &Twin) -> usize {
     let mut index = vec![0; HEAD + ROW * 4_096];
-    let length = reference::index::build(segment.bytes(0..SEGMENT_MAX), &mut index);
+    let length = reference::index::build(Version::Two, segment.bytes(0..SEGMENT_MAX), &mut index);
     (length.expect("so many rows are enough") - HEAD) / ROW
 }
 

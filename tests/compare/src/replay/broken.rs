@@ -143,11 +143,12 @@ pub fn compare_damage(rng: &mut Rng) -> Outcome {
         replays.put(rng, &sample.bytes);
         for fragment in some_fragments(rng, &sample) {
             for (place, byte) in generate::damages(rng, &sample, fragment) {
+                let old = replays.segment.bytes(place..place + 1)[0];
                 replays.segment.put_at(place, &[byte]);
                 replays.replay(sample.bytes.len())?;
-                replays.segment.put_at(place, &[sample.bytes[place]]);
+                replays.segment.put_at(place, &[old]);
             }
-            spoil_data(rng, &mut replays, &sample.bytes, fragment)?;
+            spoil_data(rng, &mut replays, sample.bytes.len(), fragment)?;
         }
     }
     Ok(replays.cases)
@@ -157,21 +158,21 @@ pub fn compare_damage(rng: &mut Rng) -> Outcome {
 fn spoil_data(
     rng: &mut Rng,
     replays: &mut Replays,
-    bytes: &[u8],
+    length: usize,
     fragment: Fragment,
 ) -> Result<(), String> {
     let Fragment { start, end, .. } = fragment;
-    let old = &bytes[start..end];
+    let old = replays.segment.bytes(start..end).to_vec();
     for _ in 0..4.min(old.len() - HEADER) {
-        let mut spoilt = old.to_vec();
+        let mut spoilt = old.clone();
         let data = &mut spoilt[HEADER..];
         let place = rng.below(data.len());
         data[place] ^= 1 << rng.below(8);
-        generate::make_fragment(&mut spoilt, old[0]);
+        generate::make_fragment(replays.version, &mut spoilt, old[0]);
         replays.segment.put_at(start, &spoilt);
-        replays.replay(bytes.len())?;
+        replays.replay(length)?;
     }
-    replays.segment.put_at(start, old);
+    replays.segment.put_at(start, &old);
     Ok(())
 }
 

@@ -7,6 +7,7 @@ use crate::twin::Twin;
 use crate::Outcome;
 use reference::body;
 use reference::segment::{self, Good, Reading, RECORD_MAX};
+use reference::version::Version;
 
 /// Few ids, which every record meets again: whole, and cut anywhere.
 pub fn compare_few(rng: &mut Rng) -> Outcome {
@@ -76,7 +77,9 @@ fn known_records(bytes: &[u8]) -> Log {
     let mut log = Log::default();
     let mut buffer = vec![0; RECORD_MAX];
     let good = &mut Good::default();
-    while let Ok(Reading::Record(record)) = segment::read(bytes, good.offset, &mut buffer, good) {
+    while let Ok(Reading::Record(record)) =
+        segment::read(Version::One, bytes, good.offset, &mut buffer, good)
+    {
         let body = &buffer[..record.length];
         if body::check(body).is_ok() {
             log.add(body);

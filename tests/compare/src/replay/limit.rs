@@ -8,6 +8,7 @@ use crate::Outcome;
 use reference::body::{NewEntry, SeriesId, Strings, SERIES};
 use reference::refusal::{BAD_BUFFER, TORN};
 use reference::segment::{self, FRAGMENT_MAX, PAGE, SEGMENT_MAX};
+use reference::version::Version;
 
 const LAST_PAGE: usize = SEGMENT_MAX - PAGE;
 
@@ -15,6 +16,7 @@ const LAST_PAGE: usize = SEGMENT_MAX - PAGE;
 pub fn compare_limit(rng: &mut Rng) -> Outcome {
     let segment = full_segment(rng)?;
     let mut replays = Replays::with_segment(rng, segment);
+    replays.version = Version::Two;
     for (length, number) in [
         (SEGMENT_MAX, 0),
         (SEGMENT_MAX - 1, TORN),
@@ -55,5 +57,5 @@ fn page_record(id: u64) -> Vec<u8> {
 }
 
 fn write(bytes: &mut [u8], place: usize, record: &[u8]) -> Result<usize, String> {
-    segment::write(bytes, place, record).map_err(|why| format!("{why:?}"))
+    segment::write(Version::Two, bytes, place, record).map_err(|why| format!("{why:?}"))
 }

@@ -10,6 +10,7 @@ use reference::body::{
 use reference::histogram::{NewHistogram, Spans};
 use reference::segment::{left_in_page, FIRST, FULL, HEADER, LAST, MIDDLE};
 use reference::varint;
+use reference::version::Version;
 
 // ---- Records, one after another ----
 
@@ -59,7 +60,7 @@ impl Log {
             };
             self.bytes.extend([0; HEADER]);
             self.bytes.extend(data);
-            make_fragment(&mut self.bytes[start..], kind);
+            make_fragment(Version::One, &mut self.bytes[start..], kind);
             let record = *begun.get_or_insert(start);
             let end = self.bytes.len();
             self.fragments.push(Fragment { start, end, record });
@@ -81,6 +82,7 @@ impl Log {
 
     pub fn sample(self) -> Sample {
         Sample {
+            version: Version::One,
             bytes: self.bytes,
             start: 0,
             fragments: self.fragments,

@@ -76,6 +76,7 @@ pub fn compare_one_record(rng: &mut Rng) -> Outcome {
             continue;
         }
         let pages = pages_for(1, length as u64)?.out[0] as usize;
+        bench.version = generate::any_version(rng);
         let enough = bench.write(pages * PAGE, 0, length)?.number == 0;
         let fewer = pages > 1 && bench.write((pages - 1) * PAGE, 0, length)?.number == 0;
         if !enough || fewer {
@@ -107,6 +108,7 @@ pub fn compare_lists(rng: &mut Rng) -> Outcome {
             _ => Leaves::Any,
         };
         let lengths = any_list(rng, leaves);
+        bench.version = generate::any_version(rng);
         reached += u64::from(write_list(&mut bench, &lengths)? == 0);
         if !bench.segment.equal_to(usize::MAX) {
             let place = bench.segment.first_difference();

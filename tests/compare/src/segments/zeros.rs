@@ -6,12 +6,13 @@ use crate::generate::{self, Sample, ZEROS};
 use crate::rng::Rng;
 use crate::Outcome;
 use reference::segment::{self, FULL, LAST, PAGE};
+use reference::version::Version;
 
 /// Short logs cut at every byte; longer ones near every header and the end of every page.
 pub fn compare_cuts(rng: &mut Rng) -> Outcome {
     let mut bench = Bench::new(rng);
     for _ in 0..24 {
-        let log = short_log(rng);
+        let log = short_log(rng).in_any_version(rng);
         bench.put(rng, &log);
         for cut in 0..=log.bytes.len() {
             read_all_zeros(&mut bench, &log, cut)?;
@@ -19,7 +20,7 @@ pub fn compare_cuts(rng: &mut Rng) -> Outcome {
     }
     for _ in 0..10 {
         let pages = 2 + rng.below(2);
-        let log = generate::written_by(rng, pages, 12);
+        let log = generate::written_by(rng, pages, 12).in_any_version(rng);
         bench.put(rng, &log);
         for cut in long_cuts(&log) {
             read_all_zeros(&mut bench, &log, cut)?;
@@ -30,19 +31,21 @@ pub fn compare_cuts(rng: &mut Rng) -> Outcome {
 
 /// A few records of a few bytes.
 fn short_log(rng: &mut Rng) -> Sample {
+    let (version, start) = (Version::One, 0);
     let mut bytes = vec![0; PAGE];
     let mut fragments = Vec::new();
     let mut place = 0;
     for _ in 0..1 + rng.below(6) {
         let length = 1 + rng.below(30);
         let record = rng.bytes(length);
-        let next = segment::write(&mut bytes, place, &record).expect("a page holds the log");
+        let next =
+            segment::write(version, &mut bytes, place, &record).expect("a page holds the log");
         generate::add_fragments(&mut fragments, &bytes, place);
         place = next;
     }
     bytes.truncate(place);
-    let start = 0;
     Sample {
+        version,
         bytes,
         start,
         fragments,
@@ -92,7 +95,7 @@ pub fn compare_type_bytes(rng: &mut Rng) -> Outcome {
     for _ in 0..300 {
         let pages = 1 + rng.below(PAGES - 2);
         let writes = 1 + rng.below(12);
-        let log = generate::written_by(rng, pages, writes);
+        let log = generate::written_by(rng, pages, writes).in_any_version(rng);
         bench.put(rng, &log);
         let ends = record_ends(&log);
         for fragment in &log.fragments {

@@ -1,7 +1,7 @@
 //! A whole segment read page by page, beside one slice.
 
 use crate::records::Full;
-use crate::timing::time;
+use crate::timing::{time, NUMBER, VERSION};
 use compare::ffi::feed::{MORE, STATE_LEN};
 use compare::ffi::{bare, END};
 use reference::feed::{Feed, Read};
@@ -55,7 +55,7 @@ fn by_feed(full: &mut Full) {
     let mut state = [0; STATE_LEN];
     let mut out = [0; 5];
     let mut count = 0;
-    bare::feed_start(&mut state);
+    bare::feed_start(&mut state, NUMBER);
     let last = loop {
         match bare::feed_read(&mut state, page, &mut full.buffer, &mut out) {
             0 => count += 1,
@@ -75,7 +75,14 @@ pub fn by_slice(full: &mut Full) {
     let mut count = 0;
     let last = loop {
         let place = out[2] as usize;
-        match bare::read(full.segment, place, &mut full.buffer, &mut good, &mut out) {
+        match bare::read(
+            NUMBER,
+            full.segment,
+            place,
+            &mut full.buffer,
+            &mut good,
+            &mut out,
+        ) {
             0 => count += 1,
             number => break number,
         }
@@ -86,7 +93,7 @@ pub fn by_slice(full: &mut Full) {
 fn by_second(full: &mut Full) {
     let mut pages = full.segment.chunks(PAGE);
     let mut page: &[u8] = &[];
-    let mut feed = Feed::start();
+    let mut feed = Feed::start(VERSION);
     let mut count = 0;
     let last = loop {
         match feed.read(black_box(page), black_box(&mut full.buffer)) {

@@ -2,7 +2,7 @@
 
 use crate::feed::{by_slice, LENGTH};
 use crate::records::Full;
-use crate::timing::time;
+use crate::timing::{time, NUMBER, VERSION};
 use compare::ffi::bare;
 use reference::index::{self, HEAD, ROW};
 use reference::segment::SEGMENT_MAX;
@@ -74,14 +74,14 @@ impl Both<'_> {
     fn ours(&mut self, room: usize) -> usize {
         let mut out = [0; 2];
         let segment = black_box(&*self.full.segment);
-        let number = bare::index_build(segment, &mut self.index[..room], &mut out);
+        let number = bare::index_build(NUMBER, segment, &mut self.index[..room], &mut out);
         assert_eq!(number, 0, "the index fits");
         out[0] as usize
     }
 
     fn second(&mut self, room: usize) -> usize {
         let segment = black_box(&*self.full.segment);
-        index::build(segment, &mut self.index[..room]).expect("the index fits")
+        index::build(VERSION, segment, &mut self.index[..room]).expect("the index fits")
     }
 }
 

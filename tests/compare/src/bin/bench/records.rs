@@ -1,7 +1,7 @@
 //! Records written and read over a whole segment.
 
 use crate::hardware;
-use crate::timing::{time, Rounds, HARDWARE, LENT, PLAIN, SECOND};
+use crate::timing::{time, Rounds, HARDWARE, LENT, NUMBER, PLAIN, SECOND, VERSION};
 use compare::ffi::{self, bare, Pair, Table};
 use reference::refusal::Refusal;
 use reference::segment::{self, Good, Reading, PAGE, RECORD_MAX, SEGMENT_MAX};
@@ -81,7 +81,7 @@ impl Full<'_> {
         let record: Vec<u8> = (0..length).map(|i| (i * 31 + 7) as u8).collect();
         let mut count = 0;
         let mut end = 0;
-        while let Ok(next) = segment::write(segment, end, &record) {
+        while let Ok(next) = segment::write(VERSION, segment, end, &record) {
             end = next;
             count += 1;
         }
@@ -153,22 +153,22 @@ fn bench_read(full: &mut Full) -> Rounds<4> {
 
 fn plain_write(segment: &mut [u8], place: usize, record: &[u8]) -> usize {
     let mut out = [0; 2];
-    bare::write(segment, place, record, &mut out);
+    bare::write(NUMBER, segment, place, record, &mut out);
     out[0] as usize
 }
 
 fn lent_write(table: &Table, segment: &mut [u8], place: usize, record: &[u8]) -> usize {
     let mut out = [0; 2];
-    bare::write_with_table(table, segment, place, record, &mut out);
+    bare::write_with_table(table, NUMBER, segment, place, record, &mut out);
     out[0] as usize
 }
 
 fn second_write(segment: &mut [u8], place: usize, record: &[u8]) -> usize {
-    segment::write(segment, place, record).expect("the records fit")
+    segment::write(VERSION, segment, place, record).expect("the records fit")
 }
 
 fn hardware_write(segment: &mut [u8], place: usize, record: &[u8]) -> usize {
-    segment::write_with(&hardware::checksum, segment, place, record).expect("the records fit")
+    segment::write_with(&hardware_sum, segment, place, record).expect("the records fit")
 }
 
 // ---- The next record, read by each contender ----
@@ -200,21 +200,22 @@ impl Kept for Good {
 
 fn plain_read(segment: &[u8], buffer: &mut [u8], kept: &mut Ours) {
     let place = kept.out[2] as usize;
-    bare::read(segment, place, buffer, &mut kept.good, &mut kept.out);
+    let (good, out) = (&mut kept.good, &mut kept.out);
+    bare::read(NUMBER, segment, place, buffer, good, out);
 }
 
 fn lent_read(table: &Table, segment: &[u8], buffer: &mut [u8], kept: &mut Ours) {
     let place = kept.out[2] as usize;
     let (good, out) = (&mut kept.good, &mut kept.out);
-    bare::read_with_table(table, segment, place, buffer, good, out);
+    bare::read_with_table(table, NUMBER, segment, place, buffer, good, out);
 }
 
 fn second_read(segment: &[u8], buffer: &mut [u8], good: &mut Good) {
-    expect_record(segment::read(segment, good.offset, buffer, good));
+    expect_record(segment::read(VERSION, segment, good.offset, buffer, good));
 }
 
 fn hardware_read(segment: &[u8], buffer: &mut [u8], good: &mut Good) {
-    let checksum = &hardware::checksum;
+    let checksum = &hardware_sum;
     expect_record(segment::read_with(
         checksum,
         segment,
@@ -222,6 +223,11 @@ fn hardware_read(segment: &[u8], buffer: &mut [u8], good: &mut Good) {
         buffer,
         good,
     ));
+}
+
+/// Of the data alone, as in version 1.
+fn hardware_sum(_: &[u8], data: &[u8]) -> u32 {
+    hardware::checksum(data)
 }
 
 fn expect_record(reading: Result<Reading, Refusal>) {

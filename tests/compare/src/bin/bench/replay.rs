@@ -1,6 +1,6 @@
 //! Logs of switches, replayed.
 
-use crate::timing::{self, Rounds};
+use crate::timing::{self, Rounds, NUMBER, VERSION};
 use compare::ffi::bare;
 use compare::ffi::replay::{SeriesTable, OUT_LEN, REPLAY_LEN};
 use compare::replay::numbers_of;
@@ -85,13 +85,13 @@ impl Log {
     fn new(series: usize, length: usize) -> Log {
         let mut rng = Rng::new(1);
         let mut bytes = vec![0; length];
-        let entered = segment::write(&mut bytes, 0, &series_body(series));
+        let entered = segment::write(VERSION, &mut bytes, 0, &series_body(series));
         let mut end = entered.expect("the series fit");
         let mut switches = 0;
         let mut body = [0; 37];
         loop {
             put_switch(&mut body, rng.below(series), series, switches);
-            let Ok(next) = segment::write(&mut bytes, end, &body) else {
+            let Ok(next) = segment::write(VERSION, &mut bytes, end, &body) else {
                 bytes.truncate(end);
                 return Log { bytes, switches };
             };
@@ -187,14 +187,14 @@ impl Logs {
     fn ours(&mut self, log: usize) -> [u64; 2] {
         let bytes = black_box(&self.logs[log].bytes);
         let mut out = [0; OUT_LEN];
-        let number = bare::replay(bytes, &mut self.buffer, &mut self.table, &mut out);
+        let number = bare::replay(NUMBER, bytes, &mut self.buffer, &mut self.table, &mut out);
         assert_eq!((number, out[0]), (0, 0), "the log is good");
         [out[1], out[2]]
     }
 
     fn second(&mut self, log: usize) -> [u64; 2] {
         let bytes = black_box(&self.logs[log].bytes);
-        let replayed = replay::replay(bytes, &mut self.buffer, &mut self.rows);
+        let replayed = replay::replay(VERSION, bytes, &mut self.buffer, &mut self.rows);
         assert_eq!(replayed.refusal, None, "the log is good");
         [replayed.series as u64, replayed.orphans]
     }

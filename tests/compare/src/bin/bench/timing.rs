@@ -1,5 +1,6 @@
 //! Rounds, and what is reported of them.
 
+use reference::version::Version;
 use std::time::Instant;
 
 /// The contenders, by their places: our plain call, our call with a caller's table, the second
@@ -8,6 +9,11 @@ pub const PLAIN: usize = 0;
 pub const LENT: usize = 1;
 pub const SECOND: usize = 2;
 pub const HARDWARE: usize = 3;
+
+/// Every segment is of version 1, the one that Prometheus reads.
+pub const VERSION: Version = Version::One;
+/// The same for the archive.
+pub const NUMBER: u32 = 1;
 
 /// Nanoseconds of one repeat, for each contender, round by round.
 pub struct Rounds<const N: usize>([Vec<f64>; N]);
