@@ -29,7 +29,8 @@ static struct depot_wal_series table[DEPOT_WAL_SERIES_MAX]; /* what each profile
 static void write_record(const uint8_t *record, size_t len, const char *what)
 {
     struct depot_wal_written out;
-    depot_wal_status status = depot_wal_write(flash, sizeof flash, log_end, record, len, &out);
+    depot_wal_status status =
+        depot_wal_write(DEPOT_WAL_V1, flash, sizeof flash, log_end, record, len, &out);
     printf("  at %3zu  %s", log_end, what);
     if (status != DEPOT_WAL_DONE)
         printf(": refused (number %" PRIu32 "), the log is unchanged", status);
@@ -98,8 +99,8 @@ static depot_wal_status read_log(size_t survived)
     struct depot_wal_record r;
     depot_wal_status status;
     log_end = 0;
-    while ((status = depot_wal_read(flash, survived, log_end, buffer, sizeof buffer, &good, &r))
-           == DEPOT_WAL_DONE) {
+    while ((status = depot_wal_read(DEPOT_WAL_V1, flash, survived, log_end, buffer, sizeof buffer,
+                                    &good, &r)) == DEPOT_WAL_DONE) {
         printf("  record at %3" PRIu64 ", %" PRIu64 " bytes\n", r.start, r.length);
         log_end = r.next;
     }
@@ -129,7 +130,7 @@ static int show_profiles(size_t survived)
 {
     struct depot_wal_replayed replayed;
     depot_wal_status status =
-        depot_wal_replay(flash, survived, buffer, sizeof buffer, table, &replayed);
+        depot_wal_replay(DEPOT_WAL_V1, flash, survived, buffer, sizeof buffer, table, &replayed);
     int good = status == DEPOT_WAL_DONE || status == DEPOT_WAL_TORN;
     for (unsigned scooter = 1; scooter <= SCOOTERS; scooter++) {
         unsigned on = 0;

@@ -3,8 +3,8 @@
  *
  * A segment is a caller-owned buffer. Records of 1 to 65,536 bytes are written into it and read
  * back, seven types of record bodies are encoded and decoded, a log is replayed into a table of
- * what each series had last, an index beside a segment tells where each record is, and a call tells
- * how big a partition must be.
+ * what each series had last, an index beside a segment tells where each record is, a call tells how
+ * big a partition must be, and the names of segments' files are parsed and made.
  * docs/FORMAT.md draws the bytes; examples/switch.c is a whole program. The archive is for Linux on
  * x86-64; beside the caller's memory it needs `memset` and `memcpy`.
  *
@@ -23,12 +23,13 @@
  *         depot_wal_status status;
  *         size_t place = 0;
  *
- *         status = depot_wal_write(segment, sizeof segment, place, hello, 5, &written);
+ *         status = depot_wal_write(DEPOT_WAL_V1, segment, sizeof segment, place, hello, 5,
+ *                                  &written);
  *         if (status != DEPOT_WAL_DONE)
  *             return 1;
  *         // Read what is on the medium: written.next bytes, or fewer after a power failure.
- *         while ((status = depot_wal_read(segment, written.next, place, buffer, sizeof buffer,
- *                                         &good, &record)) == DEPOT_WAL_DONE) {
+ *         while ((status = depot_wal_read(DEPOT_WAL_V1, segment, written.next, place, buffer,
+ *                                         sizeof buffer, &good, &record)) == DEPOT_WAL_DONE) {
  *             fwrite(buffer, 1, record.length, stdout);
  *             place = record.next;
  *         }
@@ -51,8 +52,8 @@
  *   A call that reads: the fields as the struct names them. On an error the first field is the
  *   place of the error and the others are 0; at an end, and where more is asked for, all are 0.
  *   A call that writes: the first field, `next` or `used`, is what to pass to the next call. On an
- *   error that is the value which this call was given (0 when starting a body or building an
- *   index), so always go on with it. `error_at` is the place of the error, else 0.
+ *   error that is the value which this call was given (0 when starting a body, building an index or
+ *   making a name), so always go on with it. `error_at` is the place of the error, else 0.
  *   A replay: `error_at` is the place of the error, else 0; the others always count.
  *   `good`, of a feed and of a replay, is the good length so far, whatever is returned (see there).
  *   A place is an offset in the segment or in the body.
@@ -78,6 +79,14 @@
  *     may be shared.
  *   - Seen in the machine code, not proved: every call takes less than 5 KiB of stack, one on an
  *     index less than 14 KiB, a replay less than 25 KiB, and none recurses.
+ *
+ * The versions of a segment
+ *   A segment is of version 1, which stock Prometheus reads, or of version 2, whose checksum covers
+ *   the type byte and the length too. Its name has the version; the bytes do not. Every call that
+ *   reads or writes a segment is told it, and a segment is read as the version that it was written
+ *   in: read as the other one, its records are DEPOT_WAL_BAD_SUM. Any other number is
+ *   DEPOT_WAL_BAD_NAME with place 0, before all else, and nothing but *out changes; a feed is then
+ *   started for version 1.
  *
  * From memory to the medium
  *   A call works on memory, and a write stores its bytes there in no promised order. The caller
@@ -141,11 +150,18 @@ extern "C" {
 #define DEPOT_WAL_SEGMENT_MAX  134217728u /* a segment at most */
 #define DEPOT_WAL_INDEX_HEAD   12u        /* an index without records */
 #define DEPOT_WAL_INDEX_ROW    8u         /* in an index, for each record */
+#define DEPOT_WAL_NAME_MAX     9u         /* the name of a segment at most */
+
+/* The versions of a segment. */
+#define DEPOT_WAL_V1 1u /* the checksum is over the data */
+#define DEPOT_WAL_V2 2u /* the checksum is over the type byte, the length and the data */
 
 #define DEPOT_WAL_TABLE_LEN  2048 /* numbers in the checksum's table */
 #define DEPOT_WAL_FEED_LEN   16   /* numbers in the state of a page feed */
 #define DEPOT_WAL_SERIES_MAX 256  /* series in the table of a replay */
 #define DEPOT_WAL_REPLAY_LEN 1280 /* numbers in that table: five for each series */
+
+#define DEPOT_WAL_SEQUENCE_MAX 999999u /* the highest sequence of a segment's name */
 
 /* The types of record bodies. */
 enum depot_wal_type {
@@ -188,6 +204,7 @@ enum {
     DEPOT_WAL_BAD_RANGE = 27,    /* a number of a histogram that does not fit 32 bits */
     DEPOT_WAL_TABLE_FULL = 28,   /* a log with more than 256 series */
     DEPOT_WAL_BAD_INDEX = 29,    /* not the index of this segment */
+    DEPOT_WAL_BAD_NAME = 30,     /* not the name of a segment; no such sequence or version */
     DEPOT_WAL_END = 200,         /* the end of the log or of the body; no error */
     DEPOT_WAL_MORE = 201         /* the next page is asked for; no error */
 };
@@ -220,6 +237,7 @@ static inline const char *depot_wal_status_text(depot_wal_status status)
     case DEPOT_WAL_BAD_RANGE: return "number of a histogram above 32 bits";
     case DEPOT_WAL_TABLE_FULL: return "more series than the table holds";
     case DEPOT_WAL_BAD_INDEX: return "index that is not this segment's";
+    case DEPOT_WAL_BAD_NAME: return "not the name of a segment, or no such sequence or version";
     case DEPOT_WAL_END: return "nothing more to read";
     case DEPOT_WAL_MORE: return "the next page is asked for";
     default: return "unknown status";
@@ -363,6 +381,18 @@ struct depot_wal_pages {
     uint64_t pages; /* how many pages of DEPOT_WAL_PAGE bytes; on an error: its place */
 };
 
+/* What the name of a segment says. */
+struct depot_wal_name {
+    uint64_t sequence; /* its number among the segments; on an error: the place of the error */
+    uint64_t version;  /* the version of its format, 1 or 2 */
+};
+
+/* Of making a name. */
+struct depot_wal_named {
+    uint64_t used;     /* the bytes of the name; on an error: 0 */
+    uint64_t error_at; /* the place of the error, else 0 */
+};
+
 /* The library writes each of them as an array of uint64_t, so none may be padded. This is a check
  * at compile time. */
 typedef char depot_wal_layout[
@@ -375,14 +405,17 @@ typedef char depot_wal_layout[
     sizeof(struct depot_wal_span) == 3 * 8 && sizeof(struct depot_wal_bucket) == 2 * 8 &&
     sizeof(struct depot_wal_replayed) == 6 * 8 && sizeof(struct depot_wal_series) == 5 * 8 &&
     sizeof(struct depot_wal_indexed) == 2 * 8 && sizeof(struct depot_wal_row) == 2 * 8 &&
-    sizeof(struct depot_wal_pages) == 1 * 8
+    sizeof(struct depot_wal_pages) == 1 * 8 &&
+    sizeof(struct depot_wal_name) == 2 * 8 && sizeof(struct depot_wal_named) == 2 * 8
         ? 1 : -1];
 
 /* ---- the segment ---- */
 
-/* Writes a record at `place`: 0 at first, later the `next` of the write before.
+/* Writes a record at `place`: 0 at first, later the `next` of the write before. `version` is the
+ * segment's, DEPOT_WAL_V1 or DEPOT_WAL_V2.
  * Result: the place for the next write.
  * Errors, with error_at:
+ *   DEPOT_WAL_BAD_NAME    0      no such version
  *   DEPOT_WAL_BAD_BUFFER  0      the segment is not one or more whole pages, or is above
  *                                DEPOT_WAL_SEGMENT_MAX
  *   DEPOT_WAL_BAD_PLACE   0      `place` is past the segment or has 1 to 6 bytes left in its page
@@ -390,8 +423,8 @@ typedef char depot_wal_layout[
  *   DEPOT_WAL_TOO_LONG    place  the record is above DEPOT_WAL_RECORD_MAX
  *   DEPOT_WAL_NO_ROOM     place  the record does not fit, or `place` is the segment's end
  * Changes: the segment's bytes from `place` to the new `next`, and *out. */
-depot_wal_status depot_wal_write(uint8_t *segment, size_t segment_len, size_t place,
-                                 const uint8_t *record, size_t record_len,
+depot_wal_status depot_wal_write(uint32_t version, uint8_t *segment, size_t segment_len,
+                                 size_t place, const uint8_t *record, size_t record_len,
                                  struct depot_wal_written *out);
 
 /* Reads the first record at or after `place` (0 at first, later the `next` of the record before)
@@ -401,7 +434,8 @@ depot_wal_status depot_wal_write(uint8_t *segment, size_t segment_len, size_t pl
  * `good` is the good length as the read before left it, {0, 0} at first; with a record it counts
  * one more and goes to the place after it, else it stays.
  * Result: the record's start, its length and the place after it; DEPOT_WAL_END at a clean end.
- * Errors, with the place in `start`; after the first two they are checked for each fragment:
+ * Errors, with the place in `start`; after the first three they are checked for each fragment:
+ *   DEPOT_WAL_BAD_NAME      0          no such version
  *   DEPOT_WAL_BAD_BUFFER    0          the segment is above DEPOT_WAL_SEGMENT_MAX, or the buffer
  *                                      below DEPOT_WAL_RECORD_MAX
  *   DEPOT_WAL_BAD_PLACE     0          `place` is past the segment, or no read can have left this
@@ -422,9 +456,9 @@ depot_wal_status depot_wal_write(uint8_t *segment, size_t segment_len, size_t pl
  *   DEPOT_WAL_TORN          record     the bytes end where the record's next fragment should be
  * "type byte" is that of the fragment at hand, "record" the start of the truncated record.
  * Changes: with a record of n bytes the first n of the buffer, and *good; and *out. */
-depot_wal_status depot_wal_read(const uint8_t *segment, size_t segment_len, size_t place,
-                                uint8_t *buffer, size_t buffer_len, struct depot_wal_good *good,
-                                struct depot_wal_record *out);
+depot_wal_status depot_wal_read(uint32_t version, const uint8_t *segment, size_t segment_len,
+                                size_t place, uint8_t *buffer, size_t buffer_len,
+                                struct depot_wal_good *good, struct depot_wal_record *out);
 
 /* ---- the page feed: a segment read page by page, for those who cannot hold it whole ---- */
 
@@ -433,7 +467,7 @@ depot_wal_status depot_wal_read(const uint8_t *segment, size_t segment_len, size
  * Every page is DEPOT_WAL_PAGE bytes but the last, which is shorter, or empty where the segment is
  * whole pages, and ends the feed:
  *
- *     depot_wal_feed_start(state);
+ *     depot_wal_feed_start(state, DEPOT_WAL_V1);
  *     while ((status = depot_wal_feed_read(state, page, n, buffer, sizeof buffer, &record)) ==
  *                DEPOT_WAL_DONE || status == DEPOT_WAL_MORE) {
  *         if (status == DEPOT_WAL_DONE) {
@@ -447,12 +481,15 @@ depot_wal_status depot_wal_read(const uint8_t *segment, size_t segment_len, size
  *
  * The results are those of depot_wal_read on all the pages as one segment, as long as the page
  * that was fed is the same at every read until more is asked for, and so is the buffer while a
- * record is open. The state carries the good length, and every call of the feed gives it, whatever
- * it returns. A state that no call left, of numbers beyond the limits, is DEPOT_WAL_BAD_PLACE with
- * place 0, before all else, and nothing but *out changes; the good length is as in that state. */
+ * record is open. The state carries the version, and the good length, which every call of the feed
+ * gives, whatever it returns. A state that no call left, of numbers beyond the limits, is
+ * DEPOT_WAL_BAD_PLACE with place 0, before all else, and nothing but *out changes; the good length
+ * is as in that state. */
 
-/* Starts a feed. No errors; changes the state. */
-void depot_wal_feed_start(uint64_t state[DEPOT_WAL_FEED_LEN]);
+/* Starts a feed of a segment of a version.
+ * Errors: DEPOT_WAL_BAD_NAME, no such version; the feed is then started for version 1.
+ * Changes: the state. */
+depot_wal_status depot_wal_feed_start(uint64_t state[DEPOT_WAL_FEED_LEN], uint32_t version);
 
 /* Feeds the next page.
  * Result: error_at is 0. The good length stays, also on an error.
@@ -503,7 +540,8 @@ uint32_t depot_wal_crc32c_with_table(const uint32_t table[DEPOT_WAL_TABLE_LEN],
 /* As depot_wal_write. With any other table, fragments below 512 bytes may get sums for which a
  * reader without that table returns DEPOT_WAL_BAD_SUM. */
 depot_wal_status depot_wal_write_with_table(const uint32_t table[DEPOT_WAL_TABLE_LEN],
-                                            uint8_t *segment, size_t segment_len, size_t place,
+                                            uint32_t version, uint8_t *segment,
+                                            size_t segment_len, size_t place,
                                             const uint8_t *record, size_t record_len,
                                             struct depot_wal_written *out);
 
@@ -511,7 +549,8 @@ depot_wal_status depot_wal_write_with_table(const uint32_t table[DEPOT_WAL_TABLE
  * good ones may get DEPOT_WAL_BAD_SUM, and corrupt ones that were written with that table may
  * pass. */
 depot_wal_status depot_wal_read_with_table(const uint32_t table[DEPOT_WAL_TABLE_LEN],
-                                           const uint8_t *segment, size_t segment_len, size_t place,
+                                           uint32_t version, const uint8_t *segment,
+                                           size_t segment_len, size_t place,
                                            uint8_t *buffer, size_t buffer_len,
                                            struct depot_wal_good *good,
                                            struct depot_wal_record *out);
@@ -701,24 +740,26 @@ depot_wal_status depot_wal_bucket_at(const uint8_t *body, size_t len, size_t pla
  * replayed, skipped ones too, and the place after the last of them. It counts so also on an error;
  * a record that is one is not counted.
  * Errors, with error_at. The table is then that of the records before:
+ *   DEPOT_WAL_BAD_NAME     0         no such version; all counts are 0
  *   DEPOT_WAL_BAD_BUFFER   0         the segment is above DEPOT_WAL_SEGMENT_MAX, or the buffer
  *                                    below DEPOT_WAL_RECORD_MAX; all counts are 0
- *   of depot_wal_read      as there  a record cannot be read; DEPOT_WAL_TORN too: the table then has
- *                                    every whole record
+ *   of depot_wal_read      as there  a record cannot be read; DEPOT_WAL_TORN too: the table then
+ *                                    has every whole record
  *   of depot_wal_body_check  record  the body of a record cannot be read; never
  *                                    DEPOT_WAL_UNKNOWN_TYPE
  *   DEPOT_WAL_TABLE_FULL   record    the record brings more than DEPOT_WAL_SERIES_MAX series
  * "record" is the start of that record. The last two are checked for each record, in this order.
  * Changes: the rows of the table up to `series` (the others stay), *out, and the buffer, which each
  * record that is read overwrites from its front. */
-depot_wal_status depot_wal_replay(const uint8_t *segment, size_t segment_len,
+depot_wal_status depot_wal_replay(uint32_t version, const uint8_t *segment, size_t segment_len,
                                   uint8_t *buffer, size_t buffer_len,
                                   struct depot_wal_series table[DEPOT_WAL_SERIES_MAX],
                                   struct depot_wal_replayed *out);
 
 /* The same, but strict, for a bench that must see every body: a record of an unknown type is not
  * skipped, but an error, as any other body that cannot be read. `skipped` is 0. */
-depot_wal_status depot_wal_replay_strict(const uint8_t *segment, size_t segment_len,
+depot_wal_status depot_wal_replay_strict(uint32_t version,
+                                         const uint8_t *segment, size_t segment_len,
                                          uint8_t *buffer, size_t buffer_len,
                                          struct depot_wal_series table[DEPOT_WAL_SERIES_MAX],
                                          struct depot_wal_replayed *out);
@@ -743,10 +784,12 @@ depot_wal_status depot_wal_replay_strict(const uint8_t *segment, size_t segment_
  * than 8 * (segment_len / 7), the segment is read once, else twice.
  * Result: the bytes of the index.
  * Errors, with error_at; `used` is 0:
+ *   DEPOT_WAL_BAD_NAME    0  no such version
  *   DEPOT_WAL_BAD_BUFFER  0  the segment is above DEPOT_WAL_SEGMENT_MAX
  *   DEPOT_WAL_NO_ROOM     0  the index does not fit into `index_len`
  * Changes: `used` bytes of `index`, and *out. */
-depot_wal_status depot_wal_index_build(const uint8_t *segment, size_t segment_len,
+depot_wal_status depot_wal_index_build(uint32_t version,
+                                       const uint8_t *segment, size_t segment_len,
                                        uint8_t *index, size_t index_len,
                                        struct depot_wal_indexed *out);
 
@@ -754,10 +797,12 @@ depot_wal_status depot_wal_index_build(const uint8_t *segment, size_t segment_le
  * the one built from the bytes that it covers.
  * Result: the number of records that it lists.
  * Errors, with the place in `count`:
+ *   DEPOT_WAL_BAD_NAME    0  no such version
  *   DEPOT_WAL_BAD_BUFFER  0  the segment is above DEPOT_WAL_SEGMENT_MAX
  *   DEPOT_WAL_BAD_INDEX   0  it covers more than the segment, or is not the index of those bytes
  * Changes: *out. */
-depot_wal_status depot_wal_index_check(const uint8_t *segment, size_t segment_len,
+depot_wal_status depot_wal_index_check(uint32_t version,
+                                       const uint8_t *segment, size_t segment_len,
                                        const uint8_t *index, size_t index_len,
                                        struct depot_wal_count *out);
 
@@ -765,11 +810,13 @@ depot_wal_status depot_wal_index_check(const uint8_t *segment, size_t segment_le
  * first, and then equals the one that depot_wal_index_build gives.
  * Result: the bytes of the index.
  * Errors, with error_at; `used` is the value given:
+ *   DEPOT_WAL_BAD_NAME    0  no such version
  *   DEPOT_WAL_BAD_BUFFER  0  the segment is above DEPOT_WAL_SEGMENT_MAX
  *   DEPOT_WAL_BAD_INDEX   0  `used` is above `index_len`, or as depot_wal_index_check
  *   DEPOT_WAL_NO_ROOM     0  the new index does not fit into `index_len`
  * Changes: bytes of `index` before the new `used`, and *out. */
-depot_wal_status depot_wal_index_extend(const uint8_t *segment, size_t segment_len,
+depot_wal_status depot_wal_index_extend(uint32_t version,
+                                        const uint8_t *segment, size_t segment_len,
                                         uint8_t *index, size_t index_len, size_t used,
                                         struct depot_wal_indexed *out);
 
@@ -820,6 +867,32 @@ depot_wal_status depot_wal_index_at(const uint8_t *index, size_t index_len, uint
  * Changes: *out. */
 depot_wal_status depot_wal_pages_for(uint64_t records, uint64_t bytes,
                                      struct depot_wal_pages *out);
+
+/* ---- the name of a segment ---- */
+
+/* The name of a segment's file says its sequence and the version of its format: six digits, as
+ * 000042, are version 1, and six digits and -v2, as 000042-v2, version 2. A name is bytes in ASCII
+ * without a terminating zero, and without the directory. What a file holds is not looked at: a file
+ * that was renamed to the other version gives DEPOT_WAL_BAD_SUM at its first record. */
+
+/* Parses a name. Version 1 is also read where it is written out, as 000042-v1.
+ * Result: sequence and version.
+ * Errors, with the place in `sequence`:
+ *   DEPOT_WAL_BAD_NAME  0  anything else: other than six digits, another version, a leading zero in
+ *                          it, or more bytes
+ * Changes: *out. */
+depot_wal_status depot_wal_name_parse(const uint8_t *name, size_t name_len,
+                                      struct depot_wal_name *out);
+
+/* Makes the name of a segment at the front of `name`: 6 bytes in version 1, DEPOT_WAL_NAME_MAX in
+ * version 2.
+ * Result: the bytes of the name.
+ * Errors, with error_at; `used` is 0:
+ *   DEPOT_WAL_BAD_NAME  0  the sequence is above DEPOT_WAL_SEQUENCE_MAX, or the version not 1 or 2
+ *   DEPOT_WAL_NO_ROOM   0  the name does not fit into `name_len`
+ * Changes: `used` bytes of `name`, and *out. */
+depot_wal_status depot_wal_name_make(uint64_t sequence, uint64_t version, uint8_t *name,
+                                     size_t name_len, struct depot_wal_named *out);
 
 #ifdef __cplusplus
 }

@@ -12,6 +12,8 @@
 #define PAGE DEPOT_WAL_PAGE
 #define LIMIT DEPOT_WAL_SEGMENT_MAX
 #define DONE DEPOT_WAL_DONE
+#define V1 DEPOT_WAL_V1
+#define V2 DEPOT_WAL_V2
 #define ONE 0x3FF0000000000000u /* the bits of 1.0 */
 #define TOP UINT64_MAX
 
@@ -55,6 +57,8 @@ union result {
     struct depot_wal_indexed indexed;
     struct depot_wal_row row;
     struct depot_wal_pages pages;
+    struct depot_wal_name name;
+    struct depot_wal_named named;
 };
 static union result guarded[3], *const out = &guarded[1];
 enum { PATTERN = 0xA5 };
@@ -86,6 +90,8 @@ static int gives(depot_wal_status got, depot_wal_status status, const void *want
 #define INDEXED(...) &(struct depot_wal_indexed){__VA_ARGS__}, sizeof(struct depot_wal_indexed)
 #define ROW(...) &(struct depot_wal_row){__VA_ARGS__}, sizeof(struct depot_wal_row)
 #define PAGES(...) &(struct depot_wal_pages){__VA_ARGS__}, sizeof(struct depot_wal_pages)
+#define NAME(...) &(struct depot_wal_name){__VA_ARGS__}, sizeof(struct depot_wal_name)
+#define NAMED(...) &(struct depot_wal_named){__VA_ARGS__}, sizeof(struct depot_wal_named)
 #define REPLAYED(...) &(struct depot_wal_replayed){__VA_ARGS__}, sizeof(struct depot_wal_replayed)
 
 /* Writes bytes given as text in hexadecimal; blanks do not matter. Returns how many. */
@@ -177,6 +183,10 @@ static void layouts(void)
     FIELD(depot_wal_row, 0, start);
     FIELD(depot_wal_row, 1, length);
     FIELD(depot_wal_pages, 0, pages);
+    FIELD(depot_wal_name, 0, sequence);
+    FIELD(depot_wal_name, 1, version);
+    FIELD(depot_wal_named, 0, used);
+    FIELD(depot_wal_named, 1, error_at);
     FIELD(depot_wal_series, 0, id);
     FIELD(depot_wal_series, 1, rows);
     FIELD(depot_wal_series, 2, time);
@@ -190,8 +200,8 @@ static void texts(void)
 {
     static const depot_wal_status known[] = {0,  1,  2,  3,  4,  5,  6,  7,  8,  9,  10,
                                              11, 12, 13, 20, 21, 22, 23, 24, 25, 26, 27, 28, 29,
-                                             200, 201};
-    static const depot_wal_status unknown[] = {14, 19, 30, 199, 202, UINT32_MAX};
+                                             30, 200, 201};
+    static const depot_wal_status unknown[] = {14, 19, 31, 199, 202, UINT32_MAX};
     for (size_t i = 0; i < sizeof known / sizeof *known; i++) {
         const char *text = depot_wal_status_text(known[i]);
         int own = strcmp(text, "unknown status") != 0;
@@ -271,16 +281,16 @@ enum { PLAIN, WITH_TABLE };
 static depot_wal_status write_by(int form, size_t len, size_t place, size_t n)
 {
     if (form == PLAIN)
-        return depot_wal_write(segment, len, place, record, n, &out->written);
-    return depot_wal_write_with_table(table, segment, len, place, record, n, &out->written);
+        return depot_wal_write(V1, segment, len, place, record, n, &out->written);
+    return depot_wal_write_with_table(table, V1, segment, len, place, record, n, &out->written);
 }
 
 static depot_wal_status read_given(int form, const uint8_t *bytes, size_t len, size_t place,
                                    size_t buffer_len, struct depot_wal_good *good)
 {
     if (form == PLAIN)
-        return depot_wal_read(bytes, len, place, buffer, buffer_len, good, &out->record);
-    return depot_wal_read_with_table(table, bytes, len, place, buffer, buffer_len, good,
+        return depot_wal_read(V1, bytes, len, place, buffer, buffer_len, good, &out->record);
+    return depot_wal_read_with_table(table, V1, bytes, len, place, buffer, buffer_len, good,
                                      &out->record);
 }
 
@@ -392,7 +402,8 @@ static void the_switch(void)
 
     /* A table with other contents: the same result, and nothing but the sum differs. */
     static const uint32_t zeros[DEPOT_WAL_TABLE_LEN];
-    CHECK(GIVES(depot_wal_write_with_table(zeros, segment, PAGE, 0, record, 37, &out->written),
+    CHECK(GIVES(depot_wal_write_with_table(zeros, V1, segment, PAGE, 0, record, 37,
+                                           &out->written),
                 DONE, WRITTEN(.next = 44)));
     CHECK(same(segment, 3, "01 00 25") && memcmp(segment + 7, record, 37) == 0 &&
           all(segment + 44, PAGE - 44, 0xAA));
@@ -411,7 +422,7 @@ static void hollow_records(void)
     write_fails(__LINE__, PAGE, 0, 0, DEPOT_WAL_HOLLOW, 0);
     write_fails(__LINE__, PAGE, 51, 0, DEPOT_WAL_HOLLOW, 51);
     write_fails(__LINE__, PAGE, PAGE - 7, 0, DEPOT_WAL_HOLLOW, PAGE - 7);
-    CHECK(GIVES(depot_wal_write(segment, PAGE, 7, NULL, 0, &out->written), DEPOT_WAL_HOLLOW,
+    CHECK(GIVES(depot_wal_write(V1, segment, PAGE, 7, NULL, 0, &out->written), DEPOT_WAL_HOLLOW,
                 WRITTEN(.next = 7, .error_at = 7)));
     CHECK(all(segment, sizeof segment, 0xAA));
 
@@ -497,9 +508,9 @@ static void write_errors(void)
     write_fails(__LINE__, PAGE - 1, 0, 1, DEPOT_WAL_BAD_BUFFER, 0);
     write_fails(__LINE__, PAGE + 1, 5, 1, DEPOT_WAL_BAD_BUFFER, 0);
     write_fails(__LINE__, 44, 99, 65537, DEPOT_WAL_BAD_BUFFER, 0); /* before the next two */
-    CHECK(GIVES(depot_wal_write(NULL, 0, 0, NULL, 0, &out->written), DEPOT_WAL_BAD_BUFFER,
+    CHECK(GIVES(depot_wal_write(V1, NULL, 0, 0, NULL, 0, &out->written), DEPOT_WAL_BAD_BUFFER,
                 WRITTEN(.next = 0)));
-    CHECK(GIVES(depot_wal_write(huge, LIMIT + PAGE, 7, record, 1, &out->written),
+    CHECK(GIVES(depot_wal_write(V1, huge, LIMIT + PAGE, 7, record, 1, &out->written),
                 DEPOT_WAL_BAD_BUFFER, WRITTEN(.next = 7)));
     write_fails(__LINE__, PAGE, PAGE + 1, 1, DEPOT_WAL_BAD_PLACE, 0);
     write_fails(__LINE__, PAGE, SIZE_MAX, 1, DEPOT_WAL_BAD_PLACE, 0);
@@ -516,7 +527,7 @@ static void write_errors(void)
     writes(__LINE__, PAGE, PAGE - 8, 1, PAGE); /* one byte fits there */
     write_fails(__LINE__, PAGE, 10, 32752, DEPOT_WAL_NO_ROOM, 10);
     writes(__LINE__, PAGE, 10, 32751, PAGE);
-    CHECK(GIVES(depot_wal_write(huge, LIMIT, LIMIT - 8, record, 1, &out->written), DONE,
+    CHECK(GIVES(depot_wal_write(V1, huge, LIMIT, LIMIT - 8, record, 1, &out->written), DONE,
                 WRITTEN(.next = LIMIT))); /* the limit itself is good */
     CHECK(GIVES(read_by(PLAIN, huge, LIMIT, LIMIT - 8, sizeof buffer), DONE,
                 RECORD(.start = LIMIT - 8, .length = 1, .next = LIMIT)));
@@ -531,8 +542,8 @@ static void read_errors(void)
     for (int form = PLAIN; form <= WITH_TABLE; form++)
         CHECK(GIVES(read_by(form, segment, 7, 0, 65535), DEPOT_WAL_BAD_BUFFER, RECORD(.start = 0)));
     struct depot_wal_good good = {1, 0};
-    CHECK(GIVES(depot_wal_read(segment, 7, 99, NULL, 0, &good, &out->record), DEPOT_WAL_BAD_BUFFER,
-                RECORD(.start = 0)));
+    CHECK(GIVES(depot_wal_read(V1, segment, 7, 99, NULL, 0, &good, &out->record),
+                DEPOT_WAL_BAD_BUFFER, RECORD(.start = 0)));
     CHECK(all(buffer, sizeof buffer, 0x5C));
     reads_none(__LINE__, segment, 7, 8, DEPOT_WAL_BAD_PLACE, 0);
     reads_none(__LINE__, NULL, 0, 1, DEPOT_WAL_BAD_PLACE, 0);
@@ -695,7 +706,7 @@ static struct depot_wal_good fed_good; /* which the next answer should have */
 static void feed_starts(void)
 {
     memset(states, PATTERN, sizeof states);
-    depot_wal_feed_start(state);
+    CHECK(depot_wal_feed_start(state, V1) == DONE);
     fed_good = (struct depot_wal_good){0, 0};
     CHECK(all((uint8_t *)states, 8, PATTERN) &&
           all((uint8_t *)(state + DEPOT_WAL_FEED_LEN), 8, PATTERN));
@@ -849,8 +860,17 @@ static void feed_limits(void)
         memset(state, 0, 8 * DEPOT_WAL_FEED_LEN);
         state[3] = 8 * number;
         state[6] = 5;
+        state[9] = V1;
         feed_fails(__LINE__, segment, PAGE, number == 13 ? DEPOT_WAL_HOLLOW : DEPOT_WAL_BAD_PLACE,
                    number == 13 ? 5 : 0);
+    }
+    for (uint64_t version = 0; version <= 3; version++) { /* of these only 1 and 2 are one */
+        feed_starts();
+        state[9] = version;
+        if (version == V1 || version == V2)
+            feeds(__LINE__, segment, PAGE);
+        else
+            feed_fails(__LINE__, segment, PAGE, DEPOT_WAL_BAD_PLACE, 0);
     }
 }
 
@@ -864,7 +884,7 @@ static void feed_as_slice(size_t n)
     feed_starts();
     for (;;) {
         fed_good = good; /* of the answers before the record */
-        depot_wal_status status = depot_wal_read(segment, n, place, other, sizeof other, &good,
+        depot_wal_status status = depot_wal_read(V1, segment, n, place, other, sizeof other, &good,
                                                  &want);
         depot_wal_status got;
         while ((got = depot_wal_feed_read(state, segment + fed - size, size, buffer, sizeof buffer,
@@ -889,8 +909,8 @@ static void feed_cuts(void)
     size_t place = 0, i = 0;
     fill_record();
     memset(segment, 0, sizeof segment);
-    while (depot_wal_write(segment, sizeof segment, place, record, sizes[i % 9], &out->written) ==
-           DONE) {
+    while (depot_wal_write(V1, segment, sizeof segment, place, record, sizes[i % 9],
+                           &out->written) == DONE) {
         place = out->written.next;
         i++;
     }
@@ -1575,7 +1595,7 @@ static void new_log(void)
 static size_t log_bytes(const uint8_t *bytes, size_t n)
 {
     size_t start_at = log_len;
-    CHECK(depot_wal_write(segment, sizeof segment, log_len, bytes, n, &out->written) == DONE);
+    CHECK(depot_wal_write(V1, segment, sizeof segment, log_len, bytes, n, &out->written) == DONE);
     memcpy(left, bytes, n);
     log_len = out->written.next;
     return start_at;
@@ -1598,7 +1618,7 @@ static size_t log_entries(uint8_t type, const struct entry *entries, size_t n)
 
 /* Replays the log by either call. The first n rows of the table are as given, the others unchanged,
  * and the buffer is as the reads left it. */
-typedef depot_wal_status replayer(const uint8_t *, size_t, uint8_t *, size_t,
+typedef depot_wal_status replayer(uint32_t, const uint8_t *, size_t, uint8_t *, size_t,
                                   struct depot_wal_series *, struct depot_wal_replayed *);
 
 /* The good length of the log, up to the record at `at` where there is an error there: by reads. */
@@ -1607,7 +1627,8 @@ static struct depot_wal_good good_before(depot_wal_status status, size_t at)
     static uint8_t other[DEPOT_WAL_RECORD_MAX];
     struct depot_wal_good good = {0, 0}, before = good;
     struct depot_wal_record r;
-    while (depot_wal_read(segment, log_len, good.offset, other, sizeof other, &good, &r) == DONE) {
+    while (depot_wal_read(V1, segment, log_len, good.offset, other, sizeof other, &good, &r) ==
+           DONE) {
         if (status != DONE && r.start >= at)
             return before;
         before = good;
@@ -1622,7 +1643,8 @@ static void replays_by(int line, replayer *replay, depot_wal_status status, uint
     static struct depot_wal_series got[DEPOT_WAL_SERIES_MAX + 1];
     memset(got, PATTERN, sizeof got);
     memset(buffer, 0x5C, sizeof buffer);
-    check(line, GIVES(replay(segment, log_len, buffer, sizeof buffer, got, &out->replayed), status,
+    check(line, GIVES(replay(V1, segment, log_len, buffer, sizeof buffer, got, &out->replayed),
+                      status,
                       REPLAYED(.error_at = at, .series = n, .orphans = orphans,
                                .skipped = skipped, .good = good_before(status, at))),
           "replay");
@@ -1793,15 +1815,15 @@ static void replay_errors(void)
     /* BAD_BUFFER, before all else. */
     memset(rows, PATTERN, sizeof rows);
     memset(buffer, 0x5C, sizeof buffer);
-    CHECK(GIVES(depot_wal_replay(segment, log_len, buffer, DEPOT_WAL_RECORD_MAX - 1, rows,
+    CHECK(GIVES(depot_wal_replay(V1, segment, log_len, buffer, DEPOT_WAL_RECORD_MAX - 1, rows,
                                  &out->replayed),
                 DEPOT_WAL_BAD_BUFFER, REPLAYED(.error_at = 0)));
-    CHECK(GIVES(depot_wal_replay(huge, LIMIT + 1, buffer, sizeof buffer, rows, &out->replayed),
+    CHECK(GIVES(depot_wal_replay(V1, huge, LIMIT + 1, buffer, sizeof buffer, rows, &out->replayed),
                 DEPOT_WAL_BAD_BUFFER, REPLAYED(.error_at = 0)));
-    CHECK(GIVES(depot_wal_replay(NULL, 0, NULL, 0, rows, &out->replayed), DEPOT_WAL_BAD_BUFFER,
+    CHECK(GIVES(depot_wal_replay(V1, NULL, 0, NULL, 0, rows, &out->replayed), DEPOT_WAL_BAD_BUFFER,
                 REPLAYED(.error_at = 0)));
-    CHECK(GIVES(depot_wal_replay_strict(segment, log_len, buffer, DEPOT_WAL_RECORD_MAX - 1, rows,
-                                        &out->replayed),
+    CHECK(GIVES(depot_wal_replay_strict(V1, segment, log_len, buffer, DEPOT_WAL_RECORD_MAX - 1,
+                                        rows, &out->replayed),
                 DEPOT_WAL_BAD_BUFFER, REPLAYED(.error_at = 0)));
     CHECK(all((const uint8_t *)rows, sizeof rows, PATTERN));
     CHECK(all(buffer, sizeof buffer, 0x5C));
@@ -1816,13 +1838,13 @@ static void indexes(int line, size_t len, size_t records, const char *text)
 {
     size_t n = DEPOT_WAL_INDEX_HEAD + DEPOT_WAL_INDEX_ROW * records;
     memset(index_file, 0x5C, sizeof index_file);
-    check(line, GIVES(depot_wal_index_build(segment, len, index_file, n, &out->indexed), DONE,
+    check(line, GIVES(depot_wal_index_build(V1, segment, len, index_file, n, &out->indexed), DONE,
                       INDEXED(.used = n)), "built");
     check(line, same(index_file, n, text), "its bytes");
     check(line, all(index_file + n, sizeof index_file - n, 0x5C), "the rest");
-    check(line, GIVES(depot_wal_index_check(segment, len, index_file, n, &out->count), DONE,
+    check(line, GIVES(depot_wal_index_check(V1, segment, len, index_file, n, &out->count), DONE,
                       COUNT(.count = records)), "checked");
-    check(line, GIVES(depot_wal_index_build(segment, len, index_file, n - 1, &out->indexed),
+    check(line, GIVES(depot_wal_index_build(V1, segment, len, index_file, n - 1, &out->indexed),
                       DEPOT_WAL_NO_ROOM, INDEXED(.used = 0)), "a byte too short");
     check(line, same(index_file, n, text), "unchanged");
 }
@@ -1832,9 +1854,9 @@ static void index_refused(int line, size_t len, size_t n)
 {
     uint8_t before[sizeof index_file];
     memcpy(before, index_file, sizeof before);
-    check(line, GIVES(depot_wal_index_check(segment, len, index_file, n, &out->count),
+    check(line, GIVES(depot_wal_index_check(V1, segment, len, index_file, n, &out->count),
                       DEPOT_WAL_BAD_INDEX, COUNT(.count = 0)), "not accepted");
-    check(line, GIVES(depot_wal_index_extend(segment, len, index_file, n, n, &out->indexed),
+    check(line, GIVES(depot_wal_index_extend(V1, segment, len, index_file, n, n, &out->indexed),
                       DEPOT_WAL_BAD_INDEX, INDEXED(.used = n)), "not extended");
     check(line, memcmp(before, index_file, sizeof before) == 0, "unchanged");
 }
@@ -1846,7 +1868,8 @@ static void three_records(void)
     memset(segment, 0, sizeof segment);
     memset(record, 0x42, sizeof record);
     for (int i = 0; i < 3; i++)
-        CHECK(GIVES(depot_wal_write(segment, PAGE, places[i], record, lengths[i], &out->written),
+        CHECK(GIVES(depot_wal_write(V1, segment, PAGE, places[i], record, lengths[i],
+                                    &out->written),
                     DONE, WRITTEN(.next = places[i] + 7 + lengths[i])));
 }
 
@@ -1870,21 +1893,21 @@ static void index_built(void)
     const char *whole = "00000003 0000000C 00000022 00000000 0000000A 00000011 00000001"
                         "00000019 00000002";
     indexes(__LINE__, 26, 2, "00000002 0000000C 0000001A 00000000 0000000A 00000011 00000001");
-    CHECK(GIVES(depot_wal_index_check(segment, 34, index_file, 28, &out->count), DONE,
+    CHECK(GIVES(depot_wal_index_check(V1, segment, 34, index_file, 28, &out->count), DONE,
                 COUNT(.count = 2)));
-    CHECK(GIVES(depot_wal_index_extend(segment, 34, index_file, 35, 28, &out->indexed),
+    CHECK(GIVES(depot_wal_index_extend(V1, segment, 34, index_file, 35, 28, &out->indexed),
                 DEPOT_WAL_NO_ROOM, INDEXED(.used = 28)));
     CHECK(same(index_file, 28, "00000002 0000000C 0000001A 00000000 0000000A 00000011 00000001"));
-    CHECK(GIVES(depot_wal_index_extend(segment, 34, index_file, sizeof index_file, 28,
+    CHECK(GIVES(depot_wal_index_extend(V1, segment, 34, index_file, sizeof index_file, 28,
                                        &out->indexed), DONE, INDEXED(.used = 36)));
     CHECK(same(index_file, 36, whole));
     CHECK(all(index_file + 36, sizeof index_file - 36, 0x5C));
     /* once more, with nothing new; and an empty one */
-    CHECK(GIVES(depot_wal_index_extend(segment, 34, index_file, 36, 36, &out->indexed), DONE,
+    CHECK(GIVES(depot_wal_index_extend(V1, segment, 34, index_file, 36, 36, &out->indexed), DONE,
                 INDEXED(.used = 36)));
     CHECK(same(index_file, 36, whole));
     indexes(__LINE__, 5, 0, "00000000 0000000C 00000005");
-    CHECK(GIVES(depot_wal_index_extend(segment, 34, index_file, 64, 12, &out->indexed), DONE,
+    CHECK(GIVES(depot_wal_index_extend(V1, segment, 34, index_file, 64, 12, &out->indexed), DONE,
                 INDEXED(.used = 36)));
     CHECK(same(index_file, 36, whole));
 }
@@ -1908,15 +1931,15 @@ static void index_damaged(void)
     segment[0] = 2;
     index_refused(__LINE__, 34, 36);
     segment[0] = 1;
-    CHECK(GIVES(depot_wal_index_extend(segment, 34, index_file, 36, 37, &out->indexed),
+    CHECK(GIVES(depot_wal_index_extend(V1, segment, 34, index_file, 36, 37, &out->indexed),
                 DEPOT_WAL_BAD_INDEX, INDEXED(.used = 37)));
-    CHECK(GIVES(depot_wal_index_build(huge, LIMIT + 1, index_file, 12, &out->indexed),
+    CHECK(GIVES(depot_wal_index_build(V1, huge, LIMIT + 1, index_file, 12, &out->indexed),
                 DEPOT_WAL_BAD_BUFFER, INDEXED(.used = 0)));
-    CHECK(GIVES(depot_wal_index_check(huge, LIMIT + 1, index_file, 11, &out->count),
+    CHECK(GIVES(depot_wal_index_check(V1, huge, LIMIT + 1, index_file, 11, &out->count),
                 DEPOT_WAL_BAD_BUFFER, COUNT(.count = 0)));
-    CHECK(GIVES(depot_wal_index_extend(huge, LIMIT + 1, index_file, 36, 37, &out->indexed),
+    CHECK(GIVES(depot_wal_index_extend(V1, huge, LIMIT + 1, index_file, 36, 37, &out->indexed),
                 DEPOT_WAL_BAD_BUFFER, INDEXED(.used = 37)));
-    CHECK(GIVES(depot_wal_index_check(segment, 34, NULL, 0, &out->count), DEPOT_WAL_BAD_INDEX,
+    CHECK(GIVES(depot_wal_index_check(V1, segment, 34, NULL, 0, &out->count), DEPOT_WAL_BAD_INDEX,
                 COUNT(.count = 0)));
 }
 
@@ -2010,7 +2033,7 @@ static void list_ends(int line, const size_t *lengths, size_t n, size_t pages, s
     for (size_t k = pages - 1; k <= pages; k++) {
         size_t place = 0, refused = 0;
         for (size_t i = 0; k > 0 && i < n; i++) {
-            refused += depot_wal_write(partition, k * PAGE, place, record, lengths[i],
+            refused += depot_wal_write(V1, partition, k * PAGE, place, record, lengths[i],
                                        &out->written) == DEPOT_WAL_NO_ROOM;
             place = out->written.next;
         }
@@ -2045,6 +2068,240 @@ static void pages_hold(void)
     LIST_ENDS(2, 65529, 1, 32755, 32754);
     /* none left: the pages told are one more than this list takes */
     LIST_ENDS(3, 65536, 0, 32761, 32761);
+}
+
+/* ---- the name of a segment ---- */
+
+static void parses(int line, const char *name, uint64_t sequence, uint64_t version)
+{
+    check(line, GIVES(depot_wal_name_parse((const uint8_t *)name, strlen(name), &out->name), DONE,
+                      NAME(.sequence = sequence, .version = version)), name);
+}
+
+static void name_refused(int line, const void *name, size_t len)
+{
+    check(line, GIVES(depot_wal_name_parse(name, len, &out->name), DEPOT_WAL_BAD_NAME,
+                      NAME(.sequence = 0)), "not a name");
+}
+
+/* Names that parse, and every way that was thought of to miss one. */
+static void names_parsed(void)
+{
+    parses(__LINE__, "000000", 0, 1);
+    parses(__LINE__, "000042", 42, 1);
+    parses(__LINE__, "123456", 123456, 1);
+    parses(__LINE__, "999999", 999999, 1);
+    parses(__LINE__, "000042-v1", 42, 1);
+    parses(__LINE__, "000042-v2", 42, 2);
+    parses(__LINE__, "999999-v2", 999999, 2);
+
+    static const char *const bad[] = {
+        "", "0", "00001", "0000001", "00000000", "000042-", "000042-v", "000042-v0", "000042-v3",
+        "000042-v4", "000042-v9", "000042-v01", "000042-v02", "000042-v10", "000042-v12",
+        "000042-v21", "000042-v22", "000042-v2 ", "000042-v-2", "000042-v+2", "000042-V2",
+        "000042_v2", "000042v2", "000042-2", "000042-v2.", "000042-v2-v2", "-v2", "0042-v2",
+        "00042-v2", "0000042-v2", "00004a", "00004/", "00004:", " 00042", "+00042", "-00042",
+        "0x0042", "00004-v2", "a00042-v2", "000042 v2",
+        /* 2^64 + 1, 2^64 + 2, 2^32 + 2, 2^128 + 2 */
+        "000042-v18446744073709551617", "000042-v18446744073709551618", "000042-v4294967298",
+        "000042-v340282366920938463463374607431768211458",
+    };
+    for (size_t i = 0; i < sizeof bad / sizeof *bad; i++)
+        name_refused(__LINE__, bad[i], strlen(bad[i]));
+    name_refused(__LINE__, "000042", 7);      /* with its terminating zero */
+    name_refused(__LINE__, "000042-v2", 10);
+    name_refused(__LINE__, "000042-v2", 8);
+    name_refused(__LINE__, "000042-v2", 5);
+    name_refused(__LINE__, NULL, 0);
+
+    /* every value of every byte */
+    static const char whole[] = "000042-v2";
+    for (size_t i = 0; i < 9; i++)
+        for (int b = 0; b < 256; b++) {
+            uint8_t name[9];
+            memcpy(name, whole, 9);
+            name[i] = (uint8_t)b;
+            static const uint64_t tens[] = {100000, 10000, 1000, 100, 10, 1};
+            int digit = b >= '0' && b <= '9';
+            if (i < 6 && digit) {
+                uint64_t old = (uint64_t)(whole[i] - '0');
+                CHECK(GIVES(depot_wal_name_parse(name, 9, &out->name), DONE,
+                            NAME(.sequence = 42 - old * tens[i] + (uint64_t)(b - '0') * tens[i],
+                                 .version = 2)));
+            } else if (b == whole[i] || (i == 8 && b == '1')) {
+                CHECK(GIVES(depot_wal_name_parse(name, 9, &out->name), DONE,
+                            NAME(.sequence = 42, .version = i == 8 && b == '1' ? 1 : 2)));
+            } else {
+                name_refused(__LINE__, name, 9);
+            }
+        }
+}
+
+/* Makes a name in a buffer of each length that is long enough, and in all that are not. */
+static void makes(int line, uint64_t sequence, uint64_t version, const char *want)
+{
+    size_t n = strlen(want);
+    uint8_t name[12];
+    for (size_t len = 0; len <= sizeof name; len++) {
+        int fits = n <= len;
+        memset(name, 0x5C, sizeof name);
+        check(line, GIVES(depot_wal_name_make(sequence, version, name, len, &out->named),
+                          fits ? DONE : DEPOT_WAL_NO_ROOM, NAMED(.used = fits ? n : 0)), want);
+        check(line, !fits || memcmp(name, want, n) == 0, "its bytes");
+        check(line, all(name + (fits ? n : 0), sizeof name - (fits ? n : 0), 0x5C), "the rest");
+    }
+    parses(line, want, sequence, version);
+}
+
+static void names_made(void)
+{
+    makes(__LINE__, 0, 1, "000000");
+    makes(__LINE__, 42, 1, "000042");
+    makes(__LINE__, 123456, 1, "123456");
+    makes(__LINE__, 999999, 1, "999999");
+    makes(__LINE__, 0, 2, "000000-v2");
+    makes(__LINE__, 987654, 2, "987654-v2");
+    makes(__LINE__, 999999, 2, "999999-v2");
+    for (uint64_t sequence = 0; sequence <= DEPOT_WAL_SEQUENCE_MAX; sequence += 997) {
+        char want[16];
+        snprintf(want, sizeof want, "%06u", (unsigned)sequence);
+        makes(__LINE__, sequence, 1, want);
+        snprintf(want, sizeof want, "%06u-v2", (unsigned)sequence);
+        makes(__LINE__, sequence, 2, want);
+    }
+
+    /* 30 comes before 11, and changes no byte */
+    static const uint64_t bad[][2] = {{1000000, 1}, {1000000, 2}, {TOP, 1},  {42, 0}, {42, 3},
+                                      {42, 10},     {42, TOP},    {TOP, TOP}};
+    uint8_t name[9];
+    for (size_t i = 0; i < sizeof bad / sizeof *bad; i++)
+        for (size_t len = 0; len <= sizeof name; len += 9) {
+            memset(name, 0x5C, sizeof name);
+            CHECK(GIVES(depot_wal_name_make(bad[i][0], bad[i][1], name, len, &out->named),
+                        DEPOT_WAL_BAD_NAME, NAMED(.used = 0)));
+            CHECK(all(name, sizeof name, 0x5C));
+        }
+    CHECK(GIVES(depot_wal_name_make(42, 1, NULL, 0, &out->named), DEPOT_WAL_NO_ROOM,
+                NAMED(.used = 0)));
+}
+
+/* ---- versions ---- */
+
+/* "hello" as the one record of a segment of a version: its bytes, and that each version reads its
+ * own and the other's checksum differs. */
+static void hello_in(uint32_t version, uint32_t other)
+{
+    static const uint8_t summed[] = {1, 0, 5, 'h', 'e', 'l', 'l', 'o'};
+    uint32_t sum = version == V1 ? crc_by_bits(summed + 3, 5) : crc_by_bits(summed, 8);
+    struct depot_wal_good good = {0, 0};
+    for (int form = PLAIN; form <= WITH_TABLE; form++) {
+        memset(segment, 0x5C, sizeof segment);
+        if (form == PLAIN)
+            CHECK(GIVES(depot_wal_write(version, segment, PAGE, 0, summed + 3, 5, &out->written),
+                        DONE, WRITTEN(.next = 12)));
+        else
+            CHECK(GIVES(depot_wal_write_with_table(table, version, segment, PAGE, 0, summed + 3, 5,
+                                                   &out->written),
+                        DONE, WRITTEN(.next = 12)));
+        CHECK(memcmp(segment, summed, 3) == 0 && memcmp(segment + 7, "hello", 5) == 0);
+        for (int i = 0; i < 4; i++)
+            CHECK(segment[3 + i] == (uint8_t)(sum >> (24 - 8 * i)));
+        CHECK(all(segment + 12, PAGE - 12, 0x5C));
+        good = (struct depot_wal_good){0, 0};
+        CHECK(GIVES(depot_wal_read(version, segment, 12, 0, buffer, sizeof buffer, &good,
+                                   &out->record),
+                    DONE, RECORD(.length = 5, .next = 12)));
+        CHECK(memcmp(buffer, "hello", 5) == 0 && good.records == 1 && good.offset == 12);
+        good = (struct depot_wal_good){0, 0};
+        CHECK(GIVES(depot_wal_read_with_table(table, other, segment, 12, 0, buffer, sizeof buffer,
+                                              &good, &out->record),
+                    DEPOT_WAL_BAD_SUM, RECORD(.start = 0)));
+        CHECK(good.records == 0 && good.offset == 0);
+    }
+}
+
+/* The feed, the replays and the index of that segment: of the version, and of the other. */
+static void hello_elsewhere(uint32_t version, uint32_t other)
+{
+    static struct depot_wal_series rows[DEPOT_WAL_SERIES_MAX];
+    CHECK(depot_wal_feed_start(state, version) == DONE);
+    CHECK(depot_wal_feed_read(state, NULL, 0, buffer, sizeof buffer, &out->feed_record) ==
+          DEPOT_WAL_MORE);
+    CHECK(depot_wal_feed_page(state, segment, 12, &out->fed) == DONE);
+    CHECK(depot_wal_feed_read(state, segment, 12, buffer, sizeof buffer, &out->feed_record) ==
+          DONE);
+    CHECK(depot_wal_feed_start(state, other) == DONE);
+    CHECK(depot_wal_feed_page(state, segment, 12, &out->fed) == DONE);
+    CHECK(depot_wal_feed_read(state, segment, 12, buffer, sizeof buffer, &out->feed_record) ==
+          DEPOT_WAL_BAD_SUM);
+    CHECK(depot_wal_replay(version, segment, 12, buffer, sizeof buffer, rows, &out->replayed) ==
+          DONE); /* 'h' is an unknown type */
+    CHECK(depot_wal_replay(other, segment, 12, buffer, sizeof buffer, rows, &out->replayed) ==
+          DEPOT_WAL_BAD_SUM);
+    CHECK(depot_wal_replay_strict(version, segment, 12, buffer, sizeof buffer, rows,
+                                  &out->replayed) == DEPOT_WAL_UNKNOWN_TYPE);
+    CHECK(GIVES(depot_wal_index_build(version, segment, 12, index_file, 20, &out->indexed), DONE,
+                INDEXED(.used = 20)));
+    CHECK(same(index_file, 20, "00000001 0000000C 0000000C 00000000 00000005"));
+    CHECK(GIVES(depot_wal_index_check(version, segment, 12, index_file, 20, &out->count), DONE,
+                COUNT(.count = 1)));
+    CHECK(GIVES(depot_wal_index_check(other, segment, 12, index_file, 20, &out->count),
+                DEPOT_WAL_BAD_INDEX, COUNT(.count = 0)));
+    CHECK(GIVES(depot_wal_index_extend(version, segment, 12, index_file, 20, 20, &out->indexed),
+                DONE, INDEXED(.used = 20)));
+}
+
+/* A number that no version has: before everything else, and nothing changes. */
+static void no_version(uint32_t version)
+{
+    static struct depot_wal_series rows[DEPOT_WAL_SERIES_MAX];
+    struct depot_wal_good good = {9, 3};
+    memset(segment, 0x5C, sizeof segment);
+    memset(buffer, 0x5C, sizeof buffer);
+    memset(index_file, 0x5C, sizeof index_file);
+    memset(rows, PATTERN, sizeof rows);
+    CHECK(GIVES(depot_wal_write(version, segment, 7, 99, record, 0, &out->written),
+                DEPOT_WAL_BAD_NAME, WRITTEN(.next = 99)));
+    CHECK(GIVES(depot_wal_write_with_table(table, version, segment, PAGE, 0, record, 1,
+                                           &out->written),
+                DEPOT_WAL_BAD_NAME, WRITTEN(.next = 0)));
+    CHECK(GIVES(depot_wal_read(version, segment, PAGE, 99, buffer, 7, &good, &out->record),
+                DEPOT_WAL_BAD_NAME, RECORD(.start = 0)));
+    CHECK(GIVES(depot_wal_read_with_table(table, version, segment, PAGE, 0, buffer, sizeof buffer,
+                                          &good, &out->record),
+                DEPOT_WAL_BAD_NAME, RECORD(.start = 0)));
+    CHECK(good.records == 9 && good.offset == 3);
+    CHECK(GIVES(depot_wal_replay(version, segment, PAGE, buffer, 7, rows, &out->replayed),
+                DEPOT_WAL_BAD_NAME, REPLAYED(.error_at = 0)));
+    CHECK(GIVES(depot_wal_replay_strict(version, segment, PAGE, buffer, sizeof buffer, rows,
+                                        &out->replayed),
+                DEPOT_WAL_BAD_NAME, REPLAYED(.error_at = 0)));
+    CHECK(GIVES(depot_wal_index_build(version, segment, 12, index_file, 64, &out->indexed),
+                DEPOT_WAL_BAD_NAME, INDEXED(.used = 0)));
+    CHECK(GIVES(depot_wal_index_check(version, segment, 12, index_file, 64, &out->count),
+                DEPOT_WAL_BAD_NAME, COUNT(.count = 0)));
+    CHECK(GIVES(depot_wal_index_extend(version, segment, 12, index_file, 64, 65, &out->indexed),
+                DEPOT_WAL_BAD_NAME, INDEXED(.used = 65)));
+    CHECK(all(segment, sizeof segment, 0x5C) && all(buffer, sizeof buffer, 0x5C));
+    CHECK(all(index_file, sizeof index_file, 0x5C));
+    CHECK(all((const uint8_t *)rows, sizeof rows, PATTERN));
+    /* A feed is started for version 1. */
+    feed_starts();
+    memcpy(was, states, sizeof was);
+    memset(state, PATTERN, DEPOT_WAL_FEED_LEN * sizeof *state);
+    CHECK(depot_wal_feed_start(state, version) == DEPOT_WAL_BAD_NAME);
+    CHECK(memcmp(was, states, sizeof was) == 0);
+}
+
+static void versions(void)
+{
+    hello_in(V1, V2);
+    hello_elsewhere(V1, V2);
+    hello_in(V2, V1);
+    hello_elsewhere(V2, V1);
+    no_version(0);
+    no_version(3);
+    no_version(UINT32_MAX);
 }
 
 int main(int argc, char **argv)
@@ -2095,6 +2352,9 @@ int main(int argc, char **argv)
     index_looked_up();
     pages_told();
     pages_hold();
+    names_parsed();
+    names_made();
+    versions();
     long cases = damage(argc > 1 ? argv[1] : "tests/damage.txt");
     printf("calls: %ld checks passed, %ld cases of named damage among them\n", checks, cases);
     return 0;

@@ -89,9 +89,10 @@ static depot_wal_status read_at(const struct damaged *c, const uint32_t *table, 
     memset(&buffer, PATTERN, sizeof buffer);
     memset(&result, PATTERN, sizeof result);
     if (table == NULL)
-        status = depot_wal_read(c->segment, c->length, place, to, sizeof buffer.bytes, &good, out);
+        status = depot_wal_read(DEPOT_WAL_V1, c->segment, c->length, place, to,
+                                sizeof buffer.bytes, &good, out);
     else
-        status = depot_wal_read_with_table(table, c->segment, c->length, place, to,
+        status = depot_wal_read_with_table(table, DEPOT_WAL_V1, c->segment, c->length, place, to,
                                            sizeof buffer.bytes, &good, out);
     must(c->name, all(result.before, GUARD, PATTERN) && all(result.after, GUARD, PATTERN),
          "bytes around the result are unchanged");

@@ -112,7 +112,8 @@ static int64_t first_time;
 static void write_record(const uint8_t *record, size_t length)
 {
     struct depot_wal_written out;
-    check(depot_wal_write(segment, sizeof segment, place, record, length, &out) == DEPOT_WAL_DONE,
+    check(depot_wal_write(DEPOT_WAL_V1, segment, sizeof segment, place, record, length, &out) ==
+              DEPOT_WAL_DONE,
           "depot_wal_write");
     place = out.next;
     records++;

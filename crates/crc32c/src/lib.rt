@@ -6,13 +6,14 @@ mod nibbles;
 use numbers::smaller;
 use numbers::wide32;
 ghost use mathlib.Core.Path.{_≡_};
+ghost use mathlib.Core.List.{[], _∷_};
 ghost use Prim.Native.Nat.{_+_, _-_, _*_, _/_, _%_, _<_, _≤_, min};
 ghost use lib.ListN.{length, take, drop};
 ghost use lib.Bits.{bitXor};
 ghost use Rattle.crc32c_format.specs.Crc.{bitSteps, register, crc32c};
 ghost use Rattle.crc32c_format.specs.Bytes.{littleEndian};
 ghost use Rattle.crc32c_format.specs.Table.{nibbleTable};
-ghost use Rattle.crc32c_format.specs.TableSum.{lookUp2, lookUp4, tableStep1, tableStep4, tableStep8, steps, eightsEnd, foursEnd, tableRegister, sumBy};
+ghost use Rattle.crc32c_format.specs.TableSum.{lookUp2, lookUp4, tableStep1, tableStep4, tableStep8, steps, eightsEnd, foursEnd, tableRegister, registerBy, sumBy};
 ghost use Rattle.crc32c_format.specs.Method.Fold.{onto290, onto130, taps, Folded, Slid, Cleared, Rest};
 
 // What a caller without a table passes: too short to be used.
@@ -299,6 +300,15 @@ fn long(state: u32, m: &[u8]) -> u32
     after_rest(&r)
 }
 
+// The same for callers. There are several, which keeps the compiler from merging it, with its
+// buffer, into the path of short data. `&bytes[0..]`: see `short`.
+fn long_register(state: u32, bytes: &[u8]) -> u32
+    requires { ⌜ 290 ≤ length (now bytes) ⌝ }
+    ensures { λ r. ⌜ r ≡ register state (now (bytes .entry)) ⌝ }
+{
+    long(state, &bytes[0..])
+}
+
 // The register after the bytes of a slice, from any register: data may come in parts.
 pub fn update(state: u32, bytes: &[u8]) -> u32
     ensures { λ r. ⌜ r ≡ register state (now (bytes .entry)) ⌝ }
@@ -306,17 +316,8 @@ pub fn update(state: u32, bytes: &[u8]) -> u32
     if bytes.len() < LONG {
         short(state, bytes)
     } else {
-        long(state, bytes)
+        long_register(state, bytes)
     }
-}
-
-// The checksum of long data. It has several callers, which keeps the compiler from merging it, with
-// its buffer, into the path of short data. `&bytes[0..]`: see `short`.
-fn long_sum(bytes: &[u8]) -> u32
-    requires { ⌜ 290 ≤ length (now bytes) ⌝ }
-    ensures { λ r. ⌜ r ≡ crc32c (now (bytes .entry)) ⌝ }
-{
-    long(0xFFFF_FFFF, &bytes[0..]) ^ 0xFFFF_FFFF
 }
 
 // The checksum of a slice.
@@ -326,7 +327,7 @@ pub fn checksum(bytes: &[u8]) -> u32
     if bytes.len() < LONG {
         short(0xFFFF_FFFF, bytes) ^ 0xFFFF_FFFF
     } else {
-        long_sum(bytes)
+        long_register(0xFFFF_FFFF, bytes) ^ 0xFFFF_FFFF
     }
 }
 
@@ -351,13 +352,20 @@ fn look_up4(t: &[u32], k: usize, x: u32) -> u32
 }
 
 // The register after one byte, after four, and after eight.
+fn table_byte(t: &[u32], state: u32, b: u8) -> u32
+    requires { ⌜ 2048 ≤ length (now t) ⌝ }
+    ensures { λ r. ⌜ r ≡ tableStep1 (now (t .entry)) state (b ∷ []) ⌝ }
+{
+    let x = state ^ (b as u32);
+    let i = (x % 256) as usize;
+    t[i] ^ (x / 256)
+}
+
 fn table_step1(t: &[u32], state: u32, s: &[u8], at: usize) -> u32
     requires { ⌜ (2048 ≤ length (now t)) × (at < length (now s)) ⌝ }
     ensures { λ r. ⌜ r ≡ tableStep1 (now (t .entry)) state (drop at (now (s .entry))) ⌝ }
 {
-    let x = state ^ (s[at] as u32);
-    let i = (x % 256) as usize;
-    t[i] ^ (x / 256)
+    table_byte(t, state, s[at])
 }
 
 fn table_step4(t: &[u32], state: u32, s: &[u8], at: usize) -> u32
@@ -418,48 +426,62 @@ fn table_singles(t: &[u32], state: u32, s: &[u8], at: usize) -> u32
     c
 }
 
-// The checksum of short data by a table.
-fn table_sum(t: &[u32], s: &[u8]) -> u32
+// The register after short data, by a table.
+fn table_register(t: &[u32], state: u32, s: &[u8]) -> u32
     requires { ⌜ 2048 ≤ length (now t) ⌝ }
-    ensures { λ r. ⌜ r ≡ bitXor (tableRegister (now (t .entry)) 0xFFFFFFFF (now (s .entry))) 0xFFFFFFFF ⌝ }
+    ensures { λ r. ⌜ r ≡ tableRegister (now (t .entry)) state (now (s .entry)) ⌝ }
 {
     let n = s.len();
     let past_eights = n - n % 8;
     let past_fours = n - n % 4;
-    let a = table_eights(t, 0xFFFF_FFFF, s);
+    let a = table_eights(t, state, s);
     let b = table_four(t, a, s, past_eights);
-    table_singles(t, b, s, past_fours) ^ 0xFFFF_FFFF
+    table_singles(t, b, s, past_fours)
 }
 
 // The same as one piece of machine code: the functions that it calls are inlined, and `&s[0..]` has
 // the slices passed in registers. To pass them in memory would take longer than the sum.
-fn sum_by_table(t: &[u32], s: &[u8]) -> u32
+fn register_by_table(t: &[u32], state: u32, s: &[u8]) -> u32
     requires { ⌜ 2048 ≤ length (now t) ⌝ }
-    ensures { λ r. ⌜ r ≡ bitXor (tableRegister (now (t .entry)) 0xFFFFFFFF (now (s .entry))) 0xFFFFFFFF ⌝ }
+    ensures { λ r. ⌜ r ≡ tableRegister (now (t .entry)) state (now (s .entry)) ⌝ }
 {
-    table_sum(&t[0..], &s[0..])
+    table_register(&t[0..], state, &s[0..])
 }
 
-// The checksum by a caller-owned table; one of fewer than 2,048 entries counts as none.
-pub fn sum(table: &[u32], bytes: &[u8]) -> u32
-    ensures { λ r. ⌜ r ≡ sumBy (now (table .entry)) (now (bytes .entry)) ⌝ }
+// The register after the bytes of a slice, from any register, by a caller-owned table; one of fewer
+// than 2,048 entries counts as none.
+pub fn update_with_table(table: &[u32], state: u32, bytes: &[u8]) -> u32
+    ensures { λ r. ⌜ r ≡ registerBy (now (table .entry)) state (now (bytes .entry)) ⌝ }
 {
     if LONG <= bytes.len() {
-        long_sum(bytes)
+        long_register(state, bytes)
     } else if table.len() < 2048 {
-        checksum(bytes)
+        short(state, bytes)
     } else {
-        sum_by_table(table, bytes)
+        register_by_table(table, state, bytes)
     }
 }
 
-// The same for a table whose length is known.
+// The register after three bytes, likewise. They are in no slice, so that none has to be stored.
+pub fn update3(table: &[u32], state: u32, first: u8, second: u8, third: u8) -> u32
+    ensures { λ r. ⌜ r ≡ registerBy (now (table .entry)) state (first ∷ second ∷ third ∷ []) ⌝ }
+{
+    if table.len() < 2048 {
+        let bytes = [first, second, third];
+        return short(state, &bytes);
+    }
+    let a = table_byte(table, state, first);
+    let b = table_byte(table, a, second);
+    table_byte(table, b, third)
+}
+
+// The checksum by a table whose length is known.
 pub fn checksum_with_table(table: &[u32; 2048], bytes: &[u8]) -> u32
     ensures { λ r. ⌜ r ≡ sumBy (now (table .entry)) (now (bytes .entry)) ⌝ }
 {
     if LONG <= bytes.len() {
-        long_sum(bytes)
+        long_register(0xFFFF_FFFF, bytes) ^ 0xFFFF_FFFF
     } else {
-        sum_by_table(table, bytes)
+        register_by_table(table, 0xFFFF_FFFF, bytes) ^ 0xFFFF_FFFF
     }
 }

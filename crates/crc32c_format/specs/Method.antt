@@ -1,5 +1,5 @@
--- How the code computes the checksum: definitions and laws that only the crates `crc32c` and
--- `crc32c_table` cite, in no public contract.
+-- How the code computes the checksum: definitions and laws that only the crates `crc32c`,
+-- `crc32c_table` and `version_laws` cite, in no public contract.
 pub mod Xor
 pub mod Steps
 pub mod Parts

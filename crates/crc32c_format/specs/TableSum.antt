@@ -7,7 +7,7 @@ use Prim.Native.Nat.{ℕ, zero, suc, _+_, _*_, _-_, _/_, _%_}
 use lib.ListN.{length, take, drop, getD}
 use lib.Bits.{bitXor}
 use lib.Dec.{ltb}
-use Rattle.crc32c_format.specs.Crc.{crc32c}
+use Rattle.crc32c_format.specs.Crc.{register}
 use Rattle.crc32c_format.specs.Bytes.{littleEndian}
 
 -- two bytes, as the number x, looked up in the rows k and k + 1 of the table t: the lower byte
@@ -49,10 +49,15 @@ tableRegister t c s =
     let four = steps 4 (tableStep4 t) (length s % 8 / 4) eights (drop (eightsEnd s) s) in
     steps 1 (tableStep1 t) (length s % 4) four (drop (foursEnd s) s)
 
--- a table of fewer than eight rows counts as none; data of 512 bytes and more needs no table
-unfoldable pub sumBy : List ℕ → List ℕ → ℕ
-sumBy t d =
+-- the register c after d: a table of fewer than eight rows counts as none; data of 512 bytes and
+-- more needs no table
+unfoldable pub registerBy : List ℕ → ℕ → List ℕ → ℕ
+registerBy t c d =
     elim (ltb (length t) 2048) [
-      | true ↦ crc32c d
-      | false ↦ elim (ltb (length d) 512) [ true ↦ bitXor (tableRegister t 0xFFFFFFFF d) 0xFFFFFFFF | false ↦ crc32c d ]
+      | true ↦ register c d
+      | false ↦ elim (ltb (length d) 512) [ true ↦ tableRegister t c d | false ↦ register c d ]
     ]
+
+-- the checksum
+unfoldable pub sumBy : List ℕ → List ℕ → ℕ
+sumBy t d = bitXor (registerBy t 0xFFFFFFFF d) 0xFFFFFFFF

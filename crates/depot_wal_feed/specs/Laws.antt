@@ -5,10 +5,11 @@ use mathlib.Core.Bool.{true, false}
 use mathlib.Core.List.{List, [], _∷_}
 use Prim.Native.Nat.{ℕ, _/_, _≤_, _<_}
 use native.Mathlib.Omega.{arith}
-use borrow.Author.Tests.{le-leb, lt-leb, le-ltb, lt-ltb, ne-eqb}
+use borrow.Author.Tests.{le-leb, lt-leb, le-ltb, lt-ltb, eq-eqb, ne-eqb}
 use lib.ListN.{getD, set}
 use lib.Seq.{set-getD}
 use lib.Dec.{eqb}
+use Rattle.wal_types.specs.declared.Version.{Version}
 use Rattle.wal_types.specs.declared.Refusal.the-variants.{BadPlace}
 use Rattle.feed_format.specs.declared.GoodFeed.{GoodFeed}
 use Rattle.feed_format.specs.declared.GoodFed.{GoodFed}
@@ -17,30 +18,42 @@ use Rattle.feed_format.specs.declared.PageAnswer.the-variants.{Refused as PageR
 use Rattle.feed_format.specs.declared.FeedAnswer.the-variants.{Refused}
 use Rattle.feed_format.specs.Pairing.{goodFeedOn, GoodGot, goodReadOn}
 use Rattle.feed_format.specs.Laws.Pairs.{GoodHands, GoodSame, good-same}
-use Rattle.depot_wal_feed.specs.Numbers.{stored, storedPlace, pairOf, stateOf, known, pageOut, readCode, readOut, pageCall, feedPage, readCall, feedRead}
+use Rattle.depot_wal_feed.specs.Numbers.{stored, storedPlace, pairOf, versionIn, stateOf, marked, known, pageOut, readCode, readOut, pageCall, feedPage, readCall, feedRead}
 
--- ---- whether numbers are a state
+-- ---- whether numbers are a state: their marks, then their version
 
 module _ (s : List ℕ) where
   -- no refusal stands
-  pub clear-known : getD s 3 0 < 8 → known s ≡ eqb (getD s 6 0) 0
-  unfolding known
-  clear-known h = rw (lt-ltb (getD s 3 0) 8 h)
+  pub clear-marked : getD s 3 0 < 8 → marked s ≡ eqb (getD s 6 0) 0
+  unfolding marked
+  clear-marked h = rw (lt-ltb (getD s 3 0) 8 h)
 
   -- 1 and 2 cannot stand
-  pub low-unknown : 8 ≤ getD s 3 0 → getD s 3 0 < 24 → known s ≡ false
-  unfolding known
-  low-unknown h k = rw (le-ltb (getD s 3 0) 8 h, lt-leb 24 (getD s 3 0) k, ne-eqb (getD s 3 0 / 8) 13 (λ e. omega arith))
+  pub low-unmarked : 8 ≤ getD s 3 0 → getD s 3 0 < 24 → marked s ≡ false
+  unfolding marked
+  low-unmarked h k = rw (le-ltb (getD s 3 0) 8 h, lt-leb 24 (getD s 3 0) k, ne-eqb (getD s 3 0 / 8) 13 (λ e. omega arith))
 
   -- 3 to 10 can
-  pub firm-known : 24 ≤ getD s 3 0 → getD s 3 0 < 88 → known s ≡ true
-  unfolding known
-  firm-known h k = rw (le-ltb (getD s 3 0) 8 (omega arith), le-leb 24 (getD s 3 0) h, lt-ltb (getD s 3 0) 88 k)
+  pub firm-marked : 24 ≤ getD s 3 0 → getD s 3 0 < 88 → marked s ≡ true
+  unfolding marked
+  firm-marked h k = rw (le-ltb (getD s 3 0) 8 (omega arith), le-leb 24 (getD s 3 0) h, lt-ltb (getD s 3 0) 88 k)
 
   -- of the others 13 can
-  pub hollow-known : 88 ≤ getD s 3 0 → known s ≡ eqb (getD s 3 0 / 8) 13
+  pub hollow-marked : 88 ≤ getD s 3 0 → marked s ≡ eqb (getD s 3 0 / 8) 13
+  unfolding marked
+  hollow-marked k = rw (le-ltb (getD s 3 0) 8 (omega arith), le-leb 24 (getD s 3 0) (omega arith), le-ltb (getD s 3 0) 88 k)
+
+  pub known-one : getD s 9 0 ≡ 1 → known s ≡ marked s
   unfolding known
-  hollow-known k = rw (le-ltb (getD s 3 0) 8 (omega arith), le-leb 24 (getD s 3 0) (omega arith), le-ltb (getD s 3 0) 88 k)
+  known-one h = rw (eq-eqb (getD s 9 0) 1 h)
+
+  pub known-two : getD s 9 0 ≡ 2 → known s ≡ marked s
+  unfolding known
+  known-two h = rw (ne-eqb (getD s 9 0) 1 (λ e. omega arith), eq-eqb (getD s 9 0) 2 h)
+
+  pub known-none : (getD s 9 0 ≡ 1 → ⊥) → (getD s 9 0 ≡ 2 → ⊥) → known s ≡ false
+  unfolding known
+  known-none h k = rw (ne-eqb (getD s 9 0) 1 h, ne-eqb (getD s 9 0) 2 k)
 
 -- ---- the calls
 
@@ -55,9 +68,12 @@ module _ (s page : List ℕ) where
   unfolding feedPage
   page-unknown h = rw h
 
-module _ (sum : ℕ → List ℕ → ℕ) (s page b : List ℕ) where
+module _ (sums : Version → ℕ → List ℕ → ℕ) (s page b : List ℕ) where
+  abbrev sum : ℕ → List ℕ → ℕ
+  sum = sums (versionIn s)
+
   -- numbers that are a state
-  pub read-is : (g : GoodFeed) → known s ≡ true → g ≡ stateOf s → readCall s (goodReadOn sum g page b) ≡ feedRead sum s page b
+  pub read-is : (g : GoodFeed) → known s ≡ true → g ≡ stateOf s → readCall s (goodReadOn sum g page b) ≡ feedRead sums s page b
   unfolding feedRead
   read-is g h eg = rw h (ap (λ (f : GoodFeed). readCall s (goodReadOn sum f page b)) eg)
 
@@ -74,7 +90,7 @@ module _ (sum : ℕ → List ℕ → ℕ) (s page b : List ℕ) where
       → known s ≡ true
       → g ≡ stateOf s
       → GoodHands g page sum b r c
-      → record { code = readCode (r .answer); out = readOut (r .answer) (r .feed .good); state = storedPlace (r .feed) s; buffer = c } ≡ feedRead sum s page b
+      → record { code = readCode (r .answer); out = readOut (r .answer) (r .feed .good); state = storedPlace (r .feed) s; buffer = c } ≡ feedRead sums s page b
   read-told g r c h eg er =
       let x : GoodGot = goodReadOn sum g page b in
       (λ i. record {
@@ -89,6 +105,6 @@ module _ (sum : ℕ → List ℕ → ℕ) (s page b : List ℕ) where
         buffer = x .buffer;
       }) ∙ read-is g h eg
 
-  pub read-unknown : known s ≡ false → record { code = 2; out = readOut (Refused BadPlace) (pairOf s); state = s; buffer = b } ≡ feedRead sum s page b
+  pub read-unknown : known s ≡ false → record { code = 2; out = readOut (Refused BadPlace) (pairOf s); state = s; buffer = b } ≡ feedRead sums s page b
   unfolding feedRead
   read-unknown h = rw h

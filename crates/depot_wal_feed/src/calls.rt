@@ -1,21 +1,40 @@
 // The three C calls of the page feed.
 ghost use mathlib.Core.Path.{_≡_};
-ghost use Rattle.segment_format.specs.Sums.{crcSum};
-ghost use Rattle.depot_wal_feed.specs.Numbers.{pageCode, pageOut, readCode, readOut, feedPage, feedRead, freshNumbers};
+ghost use Rattle.wal_types.specs.Versions.{versionOf};
+ghost use Rattle.segment_format.specs.Sums.{versionSum};
+ghost use Rattle.depot_wal_feed.specs.Numbers.{pageCode, pageOut, readCode, readOut, feedPage, feedRead, startCode, startNumbers};
 use crate::numbers::is_known;
 use crate::numbers::state_of;
 use crate::numbers::store;
 use crate::numbers::store_place;
+use crate::numbers::version_in;
+use crate::numbers::version_number;
 use feed_format::FeedAnswer;
 use feed_format::PageAnswer;
 use segment_format::Good;
+use wal_types::Refusal;
+use wal_types::VersionFound;
+use wal_types::version_of;
 
-// A fresh state.
+// A fresh state of a version (FORMAT 17.10); where there is no such version, one of version 1.
 #[no_mangle]
-pub extern "C" fn depot_wal_feed_start(state: &mut [u64; 16])
-    ensures { λ _. ⌜ now (state .exit) ≡ freshNumbers ⌝ }
+pub extern "C" fn depot_wal_feed_start(state: &mut [u64; 16], version: u32) -> u32
+    ensures { λ r. ⌜
+        (r ≡ startCode (versionOf version))
+        × (now (state .exit) ≡ startNumbers (versionOf version)) ⌝ }
 {
-    *state = [0, 0, 0, 1, 0, 0, 0, 0, 0, 0, 0, 0, 0, 0, 0, 0];
+    let found = version_of(version);
+    match found {
+        VersionFound::Known(known) => {
+            let number = version_number(known);
+            *state = [0, 0, 0, 1, 0, 0, 0, 0, 0, number, 0, 0, 0, 0, 0, 0];
+            0
+        }
+        VersionFound::Unknown => {
+            *state = [0, 0, 0, 1, 0, 0, 0, 0, 0, 1, 0, 0, 0, 0, 0, 0];
+            wal_types::number(Refusal::BadName)
+        }
+    }
 }
 
 // A feed's answer and its pair as numbers.
@@ -99,14 +118,15 @@ pub extern "C" fn depot_wal_feed_read(
     out: &mut [u64; 5],
 ) -> u32
     ensures { λ r. ⌜
-        (r ≡ feedRead crcSum (now (state .entry)) (now (page .entry)) (now (buffer .entry)) .code)
-        × (now (out .exit) ≡ feedRead crcSum (now (state .entry)) (now (page .entry)) (now (buffer .entry)) .out)
-        × (now (state .exit) ≡ feedRead crcSum (now (state .entry)) (now (page .entry)) (now (buffer .entry)) .state)
-        × (now (buffer .exit) ≡ feedRead crcSum (now (state .entry)) (now (page .entry)) (now (buffer .entry)) .buffer) ⌝ }
+        (r ≡ feedRead versionSum (now (state .entry)) (now (page .entry)) (now (buffer .entry)) .code)
+        × (now (out .exit) ≡ feedRead versionSum (now (state .entry)) (now (page .entry)) (now (buffer .entry)) .out)
+        × (now (state .exit) ≡ feedRead versionSum (now (state .entry)) (now (page .entry)) (now (buffer .entry)) .state)
+        × (now (buffer .exit) ≡ feedRead versionSum (now (state .entry)) (now (page .entry)) (now (buffer .entry)) .buffer) ⌝ }
 {
     if is_known(state) {
         let given = state_of(state);
-        let read = segment_feed::read(given, page, buffer);
+        let version = version_in(state);
+        let read = segment_feed::read(version, given, page, buffer);
         let next = read.feed;
         let good = next.good;
         let answer = read.answer;

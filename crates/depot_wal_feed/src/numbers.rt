@@ -1,14 +1,16 @@
 // A feed's state as the numbers that C keeps: base, size, place in the page, marks, start, held, the
-// place of a refusal that stands, and the pair. The others are spare.
+// place of a refusal that stands, the pair, and the version. The others are spare.
 ghost use mathlib.Core.Path.{_≡_};
 ghost use Prim.Native.Nat.{_≤_};
-ghost use Rattle.depot_wal_feed.specs.Numbers.{standingOf, bit, marks, stored, storedPlace, stateOf, known, standingNumber, standingPlace};
+ghost use Rattle.wal_types.specs.Versions.{versionNumber};
+ghost use Rattle.depot_wal_feed.specs.Numbers.{standingOf, bit, marks, stored, storedPlace, versionIn, stateOf, marked, known, standingNumber, standingPlace};
 use feed_format::FeedState;
 use feed_format::GoodFeed;
 use feed_format::Standing;
 use segment_format::Good;
 use wal_types::Offset;
 use wal_types::Refusal;
+use wal_types::Version;
 
 // The refusal that a number and a place say stands.
 fn standing_of(number: u64, place: u64) -> Standing
@@ -29,9 +31,22 @@ fn standing_of(number: u64, place: u64) -> Standing
     }
 }
 
-// Whether the numbers are a state.
+// Whether the numbers are a state: first their version, then their marks.
 pub(crate) fn is_known(state: &[u64; 16]) -> bool
     ensures { λ r. ⌜ r ≡ known (now (state .entry)) ⌝ }
+{
+    let number = state[9];
+    if number == 1 {
+        return has_marks(state);
+    }
+    if number == 2 {
+        return has_marks(state);
+    }
+    false
+}
+
+fn has_marks(state: &[u64; 16]) -> bool
+    ensures { λ r. ⌜ r ≡ marked (now (state .entry)) ⌝ }
 {
     let marks = state[3];
     if marks < 8 {
@@ -44,6 +59,27 @@ pub(crate) fn is_known(state: &[u64; 16]) -> bool
         return true;
     }
     marks / 8 == 13
+}
+
+// The number of a version.
+pub(crate) fn version_number(version: Version) -> u64
+    ensures { λ r. ⌜ r ≡ versionNumber version ⌝ }
+{
+    match version {
+        Version::One => 1,
+        Version::Two => 2,
+    }
+}
+
+// The version that stands in the numbers.
+pub(crate) fn version_in(state: &[u64; 16]) -> Version
+    ensures { λ r. ⌜ r ≡ versionIn (now (state .entry)) ⌝ }
+{
+    if state[9] == 2 {
+        Version::Two
+    } else {
+        Version::One
+    }
 }
 
 // The state that the numbers are.

@@ -3,12 +3,34 @@
 use mathlib.Core.List.{List, [], _∷_}
 use Prim.Native.Nat.{ℕ}
 use Rattle.wal_types.specs.Refusals.{numberOf, placeOf}
+use Rattle.wal_types.specs.declared.Refusal.the-variants.{BadName}
+use Rattle.wal_types.specs.declared.VersionFound.{VersionFound}
+use Rattle.wal_types.specs.declared.VersionFound.the-variants.{Known, Unknown}
+use Rattle.segment_format.specs.Sums.{versionSum}
+use Rattle.index_format.specs.Calls.{IndexResult, unindexed, builder, checker, extender}
 use Rattle.index_format.specs.declared.IndexAnswer.{IndexAnswer}
 use Rattle.index_format.specs.declared.IndexAnswer.the-variants.{Length, Refused}
 use Rattle.index_format.specs.declared.CheckAnswer.{CheckAnswer}
 use Rattle.index_format.specs.declared.CheckAnswer.the-variants.{Accepted, Refused as Unaccepted}
 use Rattle.index_format.specs.declared.RowAnswer.{RowAnswer}
 use Rattle.index_format.specs.declared.RowAnswer.the-variants.{Row, Refused as NoRow}
+
+-- ---- by the version of a number: where there is none it is BadName, before everything else, and no
+-- byte changes (FORMAT 1.4)
+
+abbrev pub builderFor : VersionFound → List ℕ → List ℕ → IndexResult
+builderFor (Known v) s b = builder (versionSum v) s b
+builderFor Unknown s b = unindexed BadName b
+
+abbrev pub checkerFor : VersionFound → List ℕ → List ℕ → CheckAnswer
+checkerFor (Known v) s x = checker (versionSum v) s x
+checkerFor Unknown s x = Unaccepted BadName
+
+abbrev pub extenderFor : VersionFound → List ℕ → List ℕ → ℕ → IndexResult
+extenderFor (Known v) s b used = extender (versionSum v) s b used
+extenderFor Unknown s b used = unindexed BadName b
+
+-- ---- the answers
 
 -- 0, or the status number (FORMAT 12.1)
 abbrev pub indexCode : IndexAnswer → ℕ

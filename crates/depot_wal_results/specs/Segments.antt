@@ -4,8 +4,13 @@ use mathlib.Core.List.{List, [], _∷_}
 use Prim.Native.Nat.{ℕ}
 use lib.ListN.{getD}
 use Rattle.wal_types.specs.Refusals.{numberOf, placeOf}
+use Rattle.wal_types.specs.declared.Refusal.the-variants.{BadName}
+use Rattle.wal_types.specs.declared.Version.{Version}
+use Rattle.wal_types.specs.declared.VersionFound.{VersionFound}
+use Rattle.wal_types.specs.declared.VersionFound.the-variants.{Known, Unknown}
 use Rattle.segment_format.specs.declared.Good.{Good}
-use Rattle.segment_format.specs.Good.{good}
+use Rattle.segment_format.specs.Good.{good, GoodReader, goodReader}
+use Rattle.segment_format.specs.Calls.{Writer, writer}
 use Rattle.segment_format.specs.declared.ReadAnswer.{ReadAnswer}
 use Rattle.segment_format.specs.declared.ReadAnswer.the-variants.{Record, End, Refused}
 use Rattle.segment_format.specs.declared.WriteAnswer.{WriteAnswer}
@@ -41,3 +46,15 @@ writeCode (WriteRefused why) = numberOf why
 abbrev pub writeOut : ℕ → WriteAnswer → List ℕ
 writeOut p (Next q) = q .0 ∷ 0 ∷ []
 writeOut p (WriteRefused why) = p ∷ placeOf why .0 ∷ []
+
+-- ---- by the number of a version (FORMAT 1.4)
+
+-- the format's reader and writer of a version, with the checksum that `sums` gives for it; a number
+-- that no version has is BadName, before everything else, and nothing changes
+abbrev pub readerFor : (Version → ℕ → List ℕ → ℕ) → VersionFound → GoodReader
+readerFor sums (Known v) s p b g = goodReader (sums v) s p b g
+readerFor sums Unknown s p b g = record { read = record { answer = Refused BadName; good = g }; buffer = b }
+
+abbrev pub writerFor : (Version → ℕ → List ℕ → ℕ) → VersionFound → Writer
+writerFor sums (Known v) s p d = writer (sums v) s p d
+writerFor sums Unknown s p d = record { answer = WriteRefused BadName; slice = s }

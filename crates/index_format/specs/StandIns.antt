@@ -11,7 +11,8 @@ use Rattle.big_endian.specs.Fixed.{be4, readBe2, readBe4}
 use Rattle.crc32c_format.specs.Crc.{crc32c, register, bitSteps, bitStep}
 use Rattle.segment_format.specs.Reading.{window, zeros, sized, filled, typed, step, steps, run, find}
 use Rattle.segment_format.specs.Calls.{Delivered, readFrom}
-use Rattle.segment_format.specs.Sums.{crcSum}
+use Rattle.wal_types.specs.declared.Version.the-variants.{One}
+use Rattle.segment_format.specs.Sums.{versionSum}
 use Rattle.index_format.specs.declared.CheckAnswer.the-variants.{Accepted}
 use Rattle.index_format.specs.declared.IndexAnswer.{IndexAnswer}
 use Rattle.index_format.specs.declared.IndexAnswer.the-variants.{Length, Refused}
@@ -27,7 +28,7 @@ use Rattle.index_format.specs.Laws.Records.{records-given}
 one : List ℕ
 one = 1 ∷ 0 ∷ 1 ∷ (be4 (crc32c (1 ∷ [])) ++ (1 ∷ []))
 
-one-record : length (recordsFrom crcSum one 0) ≡ 1
+one-record : length (recordsFrom (versionSum One) one 0) ≡ 1
 unfolding one recordsFrom readFrom find run steps step typed filled sized zeros window be4 readBe2 readBe4 crc32c register bitSteps bitStep
 one-record = refl
 
@@ -36,29 +37,29 @@ unfolding one be4
 one-length = refl
 
 -- what the claim says that building its index leaves: an index of 20 bytes
-built-one : (C : IndexCalls) → Indexes crcSum C → C .build one (replicate 20 0) .answer ≡ Length 20
+built-one : (C : IndexCalls) → Indexes (versionSum One) C → C .build one (replicate 20 0) .answer ≡ Length 20
 unfolding put
 built-one C h =
     let small : length one ≤ 134217728 = omega (arith, one-length) in
-    let n : length (indexOf (recordsFrom crcSum one 0) (length one)) ≡ 20 = omega (arith, length-index (recordsFrom crcSum one 0) (length one), one-record) in
-    ap (λ (r : IndexResult). r .answer) (h .builds one (replicate 20 0) (recordsFrom crcSum one 0) _ small (records-given crcSum one small))
+    let n : length (indexOf (recordsFrom (versionSum One) one 0) (length one)) ≡ 20 = omega (arith, length-index (recordsFrom (versionSum One) one 0) (length one), one-record) in
+    ap (λ (r : IndexResult). r .answer) (h .builds one (replicate 20 0) (recordsFrom (versionSum One) one 0) _ small (records-given (versionSum One) one small))
     ∙ rw n
 
 -- an index that is always empty
 abbrev pub alwaysEmpty : IndexCalls
 alwaysEmpty = record {
   build = λ s b. put (indexOf [] (length s)) b;
-  check = checker crcSum;
-  extend = extender crcSum;
+  check = checker (versionSum One);
+  extend = extender (versionSum One);
   row = lookUp;
 }
 
 -- one that covers more than was read: the last byte
 abbrev pub coversMore : IndexCalls
 coversMore = record {
-  build = λ s b. put (indexOf (recordsFrom crcSum (take (length s - 1) s) 0) (length s)) b;
-  check = checker crcSum;
-  extend = extender crcSum;
+  build = λ s b. put (indexOf (recordsFrom (versionSum One) (take (length s - 1) s) 0) (length s)) b;
+  check = checker (versionSum One);
+  extend = extender (versionSum One);
   row = lookUp;
 }
 
@@ -80,17 +81,17 @@ empty-index : put (indexOf [] (length one)) (replicate 20 0) .answer ≡ Length 
 unfolding put indexOf rowsOf be4 one
 empty-index = refl
 
-pub alwaysEmpty-refused : Indexes crcSum alwaysEmpty → ⊥
+pub alwaysEmpty-refused : Indexes (versionSum One) alwaysEmpty → ⊥
 unfolding twelve
 alwaysEmpty-refused h =
     let e : _≡_ {A = ℕ} 12 20 = ap twelve (sym empty-index ∙ built-one alwaysEmpty h) in
     omega arith
 
-cut-short : recordsFrom crcSum (take (length one - 1) one) 0 ≡ []
+cut-short : recordsFrom (versionSum One) (take (length one - 1) one) 0 ≡ []
 unfolding one recordsFrom readFrom find run steps step typed filled sized zeros window be4 readBe2 readBe4 crc32c register bitSteps bitStep
 cut-short = refl
 
-pub coversMore-refused : Indexes crcSum coversMore → ⊥
+pub coversMore-refused : Indexes (versionSum One) coversMore → ⊥
 unfolding twelve
 coversMore-refused h =
     let f : coversMore .build one (replicate 20 0) .answer ≡ Length 12 = rw cut-short empty-index in

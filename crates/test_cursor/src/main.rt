@@ -20,6 +20,7 @@ use segment_format::Good;
 use segment_format::ReadAnswer;
 use segment_format::WriteAnswer;
 use wal_types::Offset;
+use wal_types::Version;
 
 const RECORDS: usize = 8;
 
@@ -66,7 +67,7 @@ fn write_record(segment: &mut [u8], place: Offset, bytes: &[u8], length: usize) 
     if bytes.len() < length {
         return place;
     }
-    let answer = segment_writer::write(segment, place, &bytes[..length]);
+    let answer = segment_writer::write(Version::One, segment, place, &bytes[..length]);
     match answer {
         WriteAnswer::Next(next) => next,
         WriteAnswer::Refused(_) => place,
@@ -84,6 +85,7 @@ fn read_cut(segment: &[u8], length: usize, buffer: &mut [u8]) {
 fn read_records(segment: &[u8], buffer: &mut [u8]) {
     lines::opened(segment.len());
     let mut spot = Spot {
+        version: Version::One,
         place: Offset(0),
         good: Good {
             records: 0,

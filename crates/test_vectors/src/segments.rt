@@ -9,6 +9,7 @@ use segment_format::ReadAnswer;
 use segment_format::WriteAnswer;
 use wal_types::Offset;
 use wal_types::Refusal;
+use wal_types::Version;
 
 // ---- writes; a record of 0 bytes is Hollow (FORMAT 5.1)
 
@@ -126,7 +127,7 @@ fn write(slice: &mut [u8], place: usize, count: usize) {
     print::space();
     print::number(count as u64);
     print::text(b" -> ");
-    let answer = segment_writer::write(slice, Offset(place), &bytes[..count]);
+    let answer = segment_writer::write(Version::One, slice, Offset(place), &bytes[..count]);
     match answer {
         WriteAnswer::Next(next) => {
             print::text(b"next ");
@@ -237,7 +238,7 @@ fn type_line(kind: u8) {
     io::print_hex(1, kind as u64, 2);
     print::text(b" -> ");
     let none = none_yet();
-    let read = segment_reader::read(&segment, Offset(0), &mut buffer, none);
+    let read = segment_reader::read(Version::One, &segment, Offset(0), &mut buffer, none);
     let answer = read.answer;
     answer_line(answer);
 }
@@ -307,7 +308,7 @@ pub(crate) fn cuts() {
     let mut slice = [0u8; 32768];
     let mut buffer = [0u8; 65536];
     let switch = SWITCH;
-    segment_writer::write(&mut slice, Offset(0), &switch);
+    segment_writer::write(Version::One, &mut slice, Offset(0), &switch);
     cut(&slice, 44, &mut buffer);
     cut(&slice, 43, &mut buffer);
     cut(&slice, 7, &mut buffer);
@@ -322,7 +323,7 @@ fn cut(slice: &[u8], count: usize, buffer: &mut [u8]) {
         return;
     }
     let none = none_yet();
-    let read = segment_reader::read(&slice[..count], Offset(0), buffer, none);
+    let read = segment_reader::read(Version::One, &slice[..count], Offset(0), buffer, none);
     let answer = read.answer;
     let good = read.good;
     cut_line(count, answer);
@@ -332,7 +333,7 @@ fn cut(slice: &[u8], count: usize, buffer: &mut [u8]) {
             length: _,
             next,
         } => {
-            let second = segment_reader::read(&slice[..count], next, buffer, good);
+            let second = segment_reader::read(Version::One, &slice[..count], next, buffer, good);
             let then = second.answer;
             cut_line(count, then);
         }

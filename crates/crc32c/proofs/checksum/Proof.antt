@@ -11,5 +11,9 @@ returns : tie.Need-returns
 unfolding crc32c
 returns c = ap (λ (r : ℕ). bitXor r 0xFFFFFFFF) (c .short .ensures)
 
+returns-2 : tie.Need-returns-2
+unfolding crc32c
+returns-2 c = ap (λ (r : ℕ). bitXor r 0xFFFFFFFF) (c .long-register .ensures)
+
 pub checksum-spec : {M : Type 1} → statement M
-checksum-spec = tie.close (tie.spec (λ c κs. search needs) (λ c κs. search needs) returns (λ c. search needs))
+checksum-spec = tie.close (tie.spec (λ c κs. search needs) (λ c κs. search needs) returns returns-2)

@@ -126,7 +126,7 @@ unfolding steps
 steps-none w step n c s e = ap (λ (k : ℕ). steps w step k c s) e
 
 -- the steps of the code: the byte and the bytes are read at a place
-pub tableStep1-at : (t s : List ℕ) (c at : ℕ) → bitXor (getD t (bitXor c (getD s at 0) % 256) 0) (bitXor c (getD s at 0) / 256) ≡ tableStep1 t c (drop at s)
+pub tableStep1-at : (t s : List ℕ) (c at : ℕ) → tableStep1 t c (getD s at 0 ∷ []) ≡ tableStep1 t c (drop at s)
 unfolding tableStep1
 tableStep1-at t s c at =
     ap (λ (b : ℕ). bitXor (getD t (bitXor c b % 256) 0) (bitXor c b / 256)) (ap (λ (k : ℕ). getD s k 0) (sym (add-zero at)) ∙ sym (getD-drop at s 0 0))
@@ -136,6 +136,13 @@ pub tableStep8-at : (t s : List ℕ) (c at : ℕ) {x y p q : ℕ} → y ≡ litt
 unfolding tableStep8
 tableStep8-at t s c at ey ex gp gq =
     ap₂ bitXor (gp ∙ ap (lookUp4 t 0) (ey ∙ ap (λ (l : List ℕ). littleEndian (take 4 l)) (sym (drop-drop 4 at s)))) (gq ∙ ap (λ (z : ℕ). lookUp4 t 4 (bitXor c z)) ex)
+
+-- three bytes
+pub tableRegister-three : (t : List ℕ) (c x y z : ℕ) {a b r : ℕ} → a ≡ tableStep1 t c (x ∷ []) → b ≡ tableStep1 t a (y ∷ []) → r ≡ tableStep1 t b (z ∷ [])
+    → r ≡ tableRegister t c (x ∷ y ∷ z ∷ [])
+unfolding tableRegister steps tableStep1
+tableRegister-three t c x y z ha hb hr =
+    hr ∙ ap (λ (k : ℕ). tableStep1 t k (z ∷ [])) (hb ∙ ap (λ (k : ℕ). tableStep1 t k (y ∷ [])) ha)
 
 -- the three runs of the code, where it names the places by their distance from the end
 pub tableRegister-of : (t s : List ℕ) (c : ℕ) {a b r : ℕ} → a ≡ steps 8 (tableStep8 t) (length s / 8) c s

@@ -9,7 +9,7 @@ use Rattle.depot_wal_index.proofs.depot_wal_index_check.Tie as tie
 returns : tie.Need-returns
 returns c =
     let told = c .check-result .ensures in
-    let done = c .before .before .check .ensures in
+    let done = c .before .before .check-as .ensures in
     (told .0 ∙ ap checkCode done, told .1 ∙ ap checkOut done)
 
 pub depot-wal-index-check-spec : {M : Type 1} → statement M

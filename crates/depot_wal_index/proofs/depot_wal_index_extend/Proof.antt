@@ -9,7 +9,7 @@ use Rattle.depot_wal_index.proofs.depot_wal_index_extend.Tie as tie
 returns : tie.Need-returns
 returns c =
     let told = c .index-result .ensures in
-    let done = c .before .before .before .before .extend .ensures in
+    let done = c .before .before .before .before .extend-as .ensures in
     (told .0 ∙ ap indexCode (done .0), told .1 ∙ ap (indexOut _) (done .0), done .1)
 
 pub depot-wal-index-extend-spec : {M : Type 1} → statement M

@@ -18,7 +18,7 @@ count-read-requires c κs =
     let a = c .before .before .before .before .before .before .before .before .before .before .before .before .args in
     let done = rw (whole-part (a .table .now), whole-part (a .segment .now), c .before .before .before .before .before .before .before .good-of .ensures) at (c .before .before .before .read-with-table .ensures) in
     subst (λ (r : Read). Counts (r .answer) (goodOf (now (a .good)))) (sym (done .0))
-    (read-counts (tableSum (now (a .table))) (now (a .segment)) (a .place) (now (a .buffer)) (goodOf (now (a .good))))
+    (read-counts (tableSum (a .version) (now (a .table))) (now (a .segment)) (a .place) (now (a .buffer)) (goodOf (now (a .good))))
 
 returns : tie.Need-returns
 returns c =

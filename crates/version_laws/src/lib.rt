@@ -1,0 +1,1 @@
+// What the two versions of a segment are to one another, in specs/: no code.
