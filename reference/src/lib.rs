@@ -1,6 +1,6 @@
 //! The second program: the format (docs/FORMAT.md) in plain Rust, written from the customer's rules
 //! alone and never from the product's code, so that the product can be compared with it. Clear
-//! before fast; the checksum, the bodies, the feed, replay and the index are also made fast, since
+//! before fast; the checksum, the bodies, the feed, replay, the index and the report are also made fast, since
 //! the product's speed is measured against them.
 
 #![forbid(unsafe_code)]
@@ -10,10 +10,13 @@ pub mod crc32c;
 pub mod damage;
 pub mod feed;
 pub mod histogram;
+pub mod ids;
 pub mod index;
 pub mod listing;
 pub mod refusal;
 pub mod replay;
+pub mod report;
+pub mod reporting;
 pub mod rows;
 pub mod segment;
 pub mod selftest;

@@ -6,20 +6,37 @@
 //! document 02 [2]).
 //! `reference damage FILE`: the cases of a table of named damage, with this program's answers.
 //! `reference rows FILE`: every record and every entry of a segment.
+//! `reference report NAME..`: the voltage report over these segments (document 02 [12]).
 
 #![forbid(unsafe_code)]
 
-use reference::{damage, listing, rows, selftest, tour, tour_samples, vectors};
+use reference::{damage, listing, reporting, rows, selftest, tour, tour_samples, vectors};
+use std::ffi::OsString;
 use std::io::{self, BufWriter, Write};
 use std::process::ExitCode;
 
-const USAGE: &str =
-    "usage: reference selftest | vectors | reader | samples | list | damage FILE | rows FILE";
+const USAGE: &str = "usage: reference selftest | vectors | reader | samples | list | damage FILE \
+                     | rows FILE | report NAME..";
 
 fn main() -> ExitCode {
-    let words: Vec<String> = std::env::args().skip(1).collect();
-    let words: Vec<&str> = words.iter().map(String::as_str).collect();
-    let done = match words[..] {
+    let words: Vec<OsString> = std::env::args_os().skip(1).collect();
+    let done = match words.split_first() {
+        Some((first, names)) if first == "report" => print(&reporting::text(names)),
+        _ => run(&words),
+    };
+    match done {
+        Ok(()) => ExitCode::SUCCESS,
+        Err(message) => {
+            eprintln!("reference: {message}");
+            ExitCode::FAILURE
+        }
+    }
+}
+
+/// The commands but `report`, whose names need not be text.
+fn run(words: &[OsString]) -> Result<(), String> {
+    let words: Option<Vec<&str>> = words.iter().map(|word| word.to_str()).collect();
+    match words.unwrap_or_default()[..] {
         ["selftest"] => selftest::run().and_then(|()| print("selftest: all equal\n")),
         ["vectors"] => print(&vectors::text()),
         ["reader"] => print(&tour::text()),
@@ -28,13 +45,6 @@ fn main() -> ExitCode {
         ["damage", file] => file_text(file).and_then(|table| print(&damage::text(&table)?)),
         ["rows", file] => file_bytes(file).and_then(|segment| print(&rows::text(&segment)?)),
         _ => Err(USAGE.to_string()),
-    };
-    match done {
-        Ok(()) => ExitCode::SUCCESS,
-        Err(message) => {
-            eprintln!("reference: {message}");
-            ExitCode::FAILURE
-        }
     }
 }
 
