@@ -7,7 +7,6 @@ mod broken;
 mod corpus;
 mod full;
 mod limit;
-mod logs;
 mod times;
 
 pub use corpus::compare_file;

@@ -2,8 +2,8 @@
 //! on the real segments of a folder; nonzero on the first difference, with the seed and the case.
 
 use compare::rng::Rng;
-use compare::{bodies, checksums, feed, fixtures, index, names, replay, rows, segments, versions};
-use compare::{Group, Outcome};
+use compare::{bodies, checksums, feed, fixtures, index, names, replay, report, rows, segments};
+use compare::{versions, Group, Outcome};
 use std::io::Write;
 use std::path::Path;
 use std::process::ExitCode;
@@ -57,6 +57,7 @@ fn groups() -> Vec<Group> {
         feed::groups(),
         bodies::groups(),
         replay::groups(),
+        report::groups(),
         index::groups(),
         versions::groups(),
         names::groups(),
@@ -94,6 +95,7 @@ fn compare_file(rng: &mut Rng, bytes: &[u8]) -> Outcome {
     let feeds = feed::compare_file(rng, bytes)?;
     let bodies = bodies::compare_file(rng, bytes)?;
     let replays = replay::compare_file(rng, bytes)?;
+    let reports = report::compare_file(rng, bytes)?;
     let indexes = index::compare_file(rng, bytes)?;
-    Ok(sums + reads + feeds + bodies + replays + indexes)
+    Ok(sums + reads + feeds + bodies + replays + reports + indexes)
 }

@@ -1,10 +1,9 @@
 //! Logs with records that are refused, and logs that are cut, damaged or none at all.
 
-use super::corpus::any_log;
-use super::logs::{series, Log, World};
 use super::Replays;
 use crate::bodies;
 use crate::generate::{self, any_buffer, some_fragments, Fragment, Splitting};
+use crate::logs::{any_log, broken_bodies, series, Log, World};
 use crate::rng::Rng;
 use crate::Outcome;
 use reference::segment::{HEADER, PAGE};
@@ -36,26 +35,6 @@ fn short_log(rng: &mut Rng) -> Vec<Vec<u8>> {
         bodies.push(world.body(rng, 3));
     }
     bodies
-}
-
-/// A body cut at every place, of every type, and with each byte changed into one that a varint goes
-/// on with.
-fn broken_bodies(rng: &mut Rng, body: &[u8]) -> Vec<Vec<u8>> {
-    let mut broken: Vec<Vec<u8>> = (0..body.len()).map(|cut| body[..cut].to_vec()).collect();
-    for kind in 0..=255 {
-        let rest = &body[body.len().min(1)..];
-        broken.push([&[kind], rest].concat());
-    }
-    for place in 1..body.len() {
-        let mut changed = body.to_vec();
-        changed[place] = rng.pick(&[0x80, 0xFF, 0x8F]);
-        broken.push(changed.clone());
-        // Ten bytes of which the last is above 1, or is missing.
-        let end = changed.len().min(place + 10);
-        changed[place..end].fill(0xFF);
-        broken.push(changed);
-    }
-    broken
 }
 
 /// Bodies of random bytes between good records.

@@ -1,7 +1,7 @@
 //! Logs with records of every type, and real ones.
 
-use super::logs::{series, Log, World};
 use super::Replays;
+use crate::logs::{any_log, Log};
 use crate::rng::Rng;
 use crate::twin::Twin;
 use crate::Outcome;
@@ -33,27 +33,6 @@ pub fn compare_many(rng: &mut Rng) -> Outcome {
         replays.replay(rng.below(log.bytes.len() + 1))?;
     }
     Ok(replays.cases)
-}
-
-/// So many records about so many ids, each of up to `most` entries. Half of the logs enter some ids
-/// first, so that not all rows are orphans for long; a third splits its records.
-pub fn any_log(rng: &mut Rng, count: usize, records: usize, most: usize) -> Log {
-    let mut world = World::new(rng, count);
-    let mut log = Log::default();
-    if rng.once_in(2) {
-        let entered = rng.below(count + 1).min(256);
-        log.add(&series(&world.ids[..entered]));
-    }
-    let split = rng.once_in(3);
-    for _ in 0..records {
-        let body = world.body(rng, most);
-        if split && rng.once_in(2) {
-            log.add_split(rng, &body);
-        } else {
-            log.add(&body);
-        }
-    }
-    log
 }
 
 /// A real segment, whole and cut anywhere; and what is left of it without the types that stop a

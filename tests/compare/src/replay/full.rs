@@ -1,7 +1,7 @@
 //! Tables that are full, or nearly so: the record that brings a 257th id is refused whole.
 
-use super::logs::{samples, series, Log, World};
 use super::Replays;
+use crate::logs::{samples, series, Log, World};
 use crate::rng::Rng;
 use crate::Outcome;
 use reference::refusal::{SHORT, TABLE_FULL};

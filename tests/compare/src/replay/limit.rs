@@ -1,7 +1,7 @@
 //! Segments at the limit and above it.
 
-use super::logs::{build, samples, series, World};
 use super::Replays;
+use crate::logs::{build, samples, series, World};
 use crate::rng::Rng;
 use crate::twin::Twin;
 use crate::Outcome;

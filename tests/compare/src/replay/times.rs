@@ -1,7 +1,7 @@
 //! What rows and a tombstone do to one series, in every order of their times.
 
-use super::logs::{samples, series, tombstones, Log};
 use super::Replays;
+use crate::logs::{samples, series, tombstones, Log};
 use crate::rng::Rng;
 use crate::Outcome;
 use reference::replay::SERIES_MAX;

@@ -1,7 +1,8 @@
-//! `bench [LIST [SECOND]]`: in one run on one machine, the archive's calls beside the second
-//! program with its software checksum, and beside the SSE4.2 instruction; and the listing program
-//! LIST (by default target/bin/list) beside `SECOND list` (by default `bench list`).
-//! `bench list`: the second program's listing of standard input.
+//! `bench [LIST [REPORT [SECOND]]]`: in one run on one machine, the archive's calls beside the second
+//! program with its software checksum, and beside the SSE4.2 instruction; the listing program LIST
+//! (by default target/bin/list) beside `SECOND list` (by default `bench list`), and the report
+//! program REPORT (by default target/bin/report) beside `SECOND report`.
+//! `bench list`: the second program's listing of standard input. `bench report NAME..`: its report.
 
 mod bodies;
 mod checksum;
@@ -11,10 +12,11 @@ mod index;
 mod list;
 mod records;
 mod replay;
+mod report;
 mod timing;
 
-use list::Programs;
 use reference::segment::SEGMENT_MAX;
+use std::ffi::OsString;
 use std::fs;
 use std::path::PathBuf;
 
@@ -24,9 +26,11 @@ contenders take turns in every round. A time is the median of the rounds. A rati
 the median of the rounds' ratios; where it is another's time / ours, ours is faster above 1.";
 
 fn main() {
-    let words: Vec<String> = std::env::args().skip(1).collect();
-    if words == ["list"] {
-        return list::list_as_second();
+    let words: Vec<OsString> = std::env::args_os().skip(1).collect();
+    match words.split_first() {
+        Some((first, [])) if first == "list" => return list::list_as_second(),
+        Some((first, names)) if first == "report" => return report::report_as_second(names),
+        _ => {}
     }
     println!("machine: {}, caches {}", processor(), caches());
     println!("built for {}\n{METHOD}", build());
@@ -39,9 +43,10 @@ fn main() {
         records::bench(&mut segment),
         feed::bench(&mut segment),
         index::bench(&mut segment),
-        list::bench(&programs(&words), &segment),
+        list::bench(&listings(&words), &segment),
         bodies::bench(),
         replay::bench(),
+        report::bench(&reports(&words)),
     ];
     println!(
         "bench: time of the second program / ours plain, / ours with table, and of sse4.2 / ours \
@@ -51,13 +56,29 @@ fn main() {
 }
 
 /// The programs that list.
-fn programs(words: &[String]) -> Programs {
-    let named = |index: usize| words.get(index).map(PathBuf::from);
-    let itself = || std::env::current_exe().expect("a program knows its file");
-    Programs {
-        ours: named(0).unwrap_or("target/bin/list".into()),
-        second: named(1).unwrap_or_else(itself),
+fn listings(words: &[OsString]) -> list::Programs {
+    list::Programs {
+        ours: named(words, 0).unwrap_or("target/bin/list".into()),
+        second: second(words),
     }
+}
+
+/// The programs that report.
+fn reports(words: &[OsString]) -> report::Programs {
+    report::Programs {
+        ours: named(words, 1).unwrap_or("target/bin/report".into()),
+        second: second(words),
+    }
+}
+
+/// The second program: this one has it in it.
+fn second(words: &[OsString]) -> PathBuf {
+    let itself = || std::env::current_exe().expect("a program knows its file");
+    named(words, 2).unwrap_or_else(itself)
+}
+
+fn named(words: &[OsString], index: usize) -> Option<PathBuf> {
+    words.get(index).map(PathBuf::from)
 }
 
 fn build() -> &'static str {

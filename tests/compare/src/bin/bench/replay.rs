@@ -75,14 +75,14 @@ fn print_row(series: usize, log: &Log, rounds: &Rounds<4>, one: usize) {
 
 // ---- A log of switches ----
 
-struct Log {
-    bytes: Vec<u8>,
-    switches: usize,
+pub struct Log {
+    pub bytes: Vec<u8>,
+    pub switches: usize,
 }
 
 impl Log {
     /// As many switches as fit, written by the second program.
-    fn new(series: usize, length: usize) -> Log {
+    pub fn new(series: usize, length: usize) -> Log {
         let mut rng = Rng::new(1);
         let mut bytes = vec![0; length];
         let entered = segment::write(VERSION, &mut bytes, 0, &series_body(series));

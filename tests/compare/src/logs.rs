@@ -1,4 +1,5 @@
-//! Logs to replay: records about few ids and times, so that they meet.
+//! Logs for replay, the report and the checkpoint: records about few ids and times, so that they
+//! meet.
 
 use crate::bodies::{any_number, hand_made, push_padded, KINDS};
 use crate::generate::{make_fragment, Fragment, Sample};
@@ -90,6 +91,27 @@ impl Log {
     }
 }
 
+/// So many records about so many ids, each of up to `most` entries. Half of the logs enter some ids
+/// first, so that not all rows are orphans for long; a third splits its records.
+pub fn any_log(rng: &mut Rng, count: usize, records: usize, most: usize) -> Log {
+    let mut world = World::new(rng, count);
+    let mut log = Log::default();
+    if rng.once_in(2) {
+        let entered = rng.below(count + 1).min(256);
+        log.add(&series(&world.ids[..entered]));
+    }
+    let split = rng.once_in(3);
+    for _ in 0..records {
+        let body = world.body(rng, most);
+        if split && rng.once_in(2) {
+            log.add_split(rng, &body);
+        } else {
+            log.add(&body);
+        }
+    }
+    log
+}
+
 // ---- Bodies ----
 
 pub fn build(kind: u8, entries: &[NewEntry]) -> Vec<u8> {
@@ -135,6 +157,26 @@ pub fn tombstones(ranges: &[(u64, i64, i64)]) -> Vec<u8> {
         .map(|&(id, min, max)| NewEntry::Tombstone(SeriesId(id), Timestamp(min), Timestamp(max)))
         .collect();
     build(TOMBSTONES, &entries)
+}
+
+/// A body cut at every place, of every type, and with each byte changed into one that a varint goes
+/// on with.
+pub fn broken_bodies(rng: &mut Rng, body: &[u8]) -> Vec<Vec<u8>> {
+    let mut broken: Vec<Vec<u8>> = (0..body.len()).map(|cut| body[..cut].to_vec()).collect();
+    for kind in 0..=255 {
+        let rest = &body[body.len().min(1)..];
+        broken.push([&[kind], rest].concat());
+    }
+    for place in 1..body.len() {
+        let mut changed = body.to_vec();
+        changed[place] = rng.pick(&[0x80, 0xFF, 0x8F]);
+        broken.push(changed.clone());
+        // Ten bytes of which the last is above 1, or is missing.
+        let end = changed.len().min(place + 10);
+        changed[place..end].fill(0xFF);
+        broken.push(changed);
+    }
+    broken
 }
 
 // ---- What the records of one log are about ----
