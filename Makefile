@@ -41,8 +41,8 @@ interop: $(ARCHIVE)
 # Only proved crates are built: the first time this proves the library, which takes minutes; then only what has changed.
 $(ARCHIVE): $(SOURCES)
 	@mkdir -p build
-	@echo 'Proving the library and the listing program (minutes the first time) ..'
-	@rt check list >build/check.log 2>&1 || { tail -n 40 build/check.log; exit 1; }
+	@echo 'Proving the library and its programs (minutes the first time) ..'
+	@rt check list report >build/check.log 2>&1 || { tail -n 40 build/check.log; exit 1; }
 	@tools/archive
 
 clean:

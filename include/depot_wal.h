@@ -78,7 +78,7 @@
  *     none of them writes memory that another one uses: a table, or a segment that is only read,
  *     may be shared.
  *   - Seen in the machine code, not proved: every call takes less than 5 KiB of stack, one on an
- *     index less than 14 KiB, a replay less than 25 KiB, and none recurses.
+ *     index less than 14 KiB, a replay or a report less than 25 KiB, and none recurses.
  *
  * The versions of a segment
  *   A segment is of version 1, which stock Prometheus reads, or of version 2, whose checksum covers
@@ -160,6 +160,8 @@ extern "C" {
 #define DEPOT_WAL_FEED_LEN   16   /* numbers in the state of a page feed */
 #define DEPOT_WAL_SERIES_MAX 256  /* series in the table of a replay */
 #define DEPOT_WAL_REPLAY_LEN 1280 /* numbers in that table: five for each series */
+#define DEPOT_WAL_NIGHT_MAX  1024 /* segments in a report */
+#define DEPOT_WAL_REPORT_LEN 1284 /* numbers in a report: four, then five for each series */
 
 #define DEPOT_WAL_SEQUENCE_MAX 999999u /* the highest sequence of a segment's name */
 
@@ -364,6 +366,30 @@ struct depot_wal_series {
     uint64_t deleted; /* 1 if a tombstone that came after that row covers its time, else 0 */
 };
 
+/* Of a report. */
+struct depot_wal_reported {
+    uint64_t error_at; /* the place of the error, else 0 */
+};
+
+/* A series of a report. */
+struct depot_wal_extremes {
+    uint64_t id;       /* series id */
+    uint64_t rows;     /* how many rows it has */
+    uint64_t nans;     /* how many of these are NaN */
+    uint64_t smallest; /* the 64 bits of the smallest other reading, and of the largest; both 0 */
+    uint64_t largest;  /* while every row is NaN */
+};
+
+/* A report over segments. With the first four numbers zero it is a fresh one; the library keeps it
+ * from call to call. */
+struct depot_wal_report {
+    uint64_t series;   /* how many series it has, which are its first rows, as first met */
+    uint64_t segments; /* how many segments were counted */
+    uint64_t error;    /* the error that ended the report, and its place; 0 while it goes on */
+    uint64_t error_at;
+    struct depot_wal_extremes rows[DEPOT_WAL_SERIES_MAX];
+};
+
 /* Of building or extending an index. */
 struct depot_wal_indexed {
     uint64_t used;     /* the bytes of the index; on an error: as many as the call was given */
@@ -404,6 +430,8 @@ typedef char depot_wal_layout[
     sizeof(struct depot_wal_list) == 2 * 8 && sizeof(struct depot_wal_histogram) == 18 * 8 &&
     sizeof(struct depot_wal_span) == 3 * 8 && sizeof(struct depot_wal_bucket) == 2 * 8 &&
     sizeof(struct depot_wal_replayed) == 6 * 8 && sizeof(struct depot_wal_series) == 5 * 8 &&
+    sizeof(struct depot_wal_reported) == 1 * 8 && sizeof(struct depot_wal_extremes) == 5 * 8 &&
+    sizeof(struct depot_wal_report) == DEPOT_WAL_REPORT_LEN * 8 &&
     sizeof(struct depot_wal_indexed) == 2 * 8 && sizeof(struct depot_wal_row) == 2 * 8 &&
     sizeof(struct depot_wal_pages) == 1 * 8 &&
     sizeof(struct depot_wal_name) == 2 * 8 && sizeof(struct depot_wal_named) == 2 * 8
@@ -763,6 +791,40 @@ depot_wal_status depot_wal_replay_strict(uint32_t version,
                                          uint8_t *buffer, size_t buffer_len,
                                          struct depot_wal_series table[DEPOT_WAL_SERIES_MAX],
                                          struct depot_wal_replayed *out);
+
+/* ---- a report over a night's segments ---- */
+
+/* Adds the rows of a segment to a report: for each series as first met, how many rows it has, how
+ * many of them are NaN, and the smallest and the largest other reading as floats. Of two equal
+ * readings, as -0 and 0, the first is kept. Series are those of sample rows; other bodies have none.
+ * A record whose body type is unknown is skipped. Each record counts wholly or not at all.
+ * Result: the segment was read to its clean end.
+ * Errors, with error_at:
+ *   DEPOT_WAL_BAD_PLACE   0         no call left the report so: too many series or segments, or an
+ *                                   `error` other than 0, DEPOT_WAL_BAD_BUFFER and
+ *                                   DEPOT_WAL_TABLE_FULL; nothing changes
+ *   the report's `error`  as there  the report has ended; nothing changes
+ *   DEPOT_WAL_BAD_BUFFER  0         there are DEPOT_WAL_NIGHT_MAX segments already: this ends the
+ *                                   report
+ *   From here on the segment is counted, and its records before the error stay added:
+ *   DEPOT_WAL_BAD_NAME    0         no such version
+ *   DEPOT_WAL_BAD_BUFFER  0         the segment is above DEPOT_WAL_SEGMENT_MAX, or the buffer below
+ *                                   DEPOT_WAL_RECORD_MAX
+ *   of depot_wal_read     as there  a record cannot be read; DEPOT_WAL_TORN too
+ *   of depot_wal_body_check  record  the body of a record cannot be read; never
+ *                                   DEPOT_WAL_UNKNOWN_TYPE
+ *   DEPOT_WAL_TABLE_FULL  record    the record brings more than DEPOT_WAL_SERIES_MAX series: this
+ *                                   ends the report
+ * "record" is the start of that record; the last two are checked for each, in this order.
+ * A `smallest` or `largest` that is a NaN, which no call leaves, is taken as 0 by the next row of its
+ * series, and stored as 0 then. Counts wrap at 2^64.
+ * Changes: the first four numbers of the report, its rows up to `series` (the others stay), *out, and
+ * the buffer, which each record that is read overwrites from its front. */
+depot_wal_status depot_wal_report_segment(uint32_t version,
+                                          const uint8_t *segment, size_t segment_len,
+                                          uint8_t *buffer, size_t buffer_len,
+                                          struct depot_wal_report *report,
+                                          struct depot_wal_reported *out);
 
 /* ---- the index beside a segment ---- */
 

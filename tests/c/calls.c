@@ -54,6 +54,7 @@ union result {
     struct depot_wal_span span;
     struct depot_wal_bucket bucket;
     struct depot_wal_replayed replayed;
+    struct depot_wal_reported reported;
     struct depot_wal_indexed indexed;
     struct depot_wal_row row;
     struct depot_wal_pages pages;
@@ -92,6 +93,7 @@ static int gives(depot_wal_status got, depot_wal_status status, const void *want
 #define PAGES(...) &(struct depot_wal_pages){__VA_ARGS__}, sizeof(struct depot_wal_pages)
 #define NAME(...) &(struct depot_wal_name){__VA_ARGS__}, sizeof(struct depot_wal_name)
 #define NAMED(...) &(struct depot_wal_named){__VA_ARGS__}, sizeof(struct depot_wal_named)
+#define REPORTED(...) &(struct depot_wal_reported){__VA_ARGS__}, sizeof(struct depot_wal_reported)
 #define REPLAYED(...) &(struct depot_wal_replayed){__VA_ARGS__}, sizeof(struct depot_wal_replayed)
 
 /* Writes bytes given as text in hexadecimal; blanks do not matter. Returns how many. */
@@ -178,6 +180,17 @@ static void layouts(void)
     FIELD(depot_wal_replayed, 3, skipped);
     FIELD(depot_wal_replayed, 4, good.records);
     FIELD(depot_wal_replayed, 5, good.offset);
+    FIELD(depot_wal_reported, 0, error_at);
+    FIELD(depot_wal_extremes, 0, id);
+    FIELD(depot_wal_extremes, 1, rows);
+    FIELD(depot_wal_extremes, 2, nans);
+    FIELD(depot_wal_extremes, 3, smallest);
+    FIELD(depot_wal_extremes, 4, largest);
+    FIELD(depot_wal_report, 0, series);
+    FIELD(depot_wal_report, 1, segments);
+    FIELD(depot_wal_report, 2, error);
+    FIELD(depot_wal_report, 3, error_at);
+    CHECK(offsetof(struct depot_wal_report, rows) == 4 * 8);
     FIELD(depot_wal_indexed, 0, used);
     FIELD(depot_wal_indexed, 1, error_at);
     FIELD(depot_wal_row, 0, start);
@@ -1665,6 +1678,82 @@ static void replays(int line, depot_wal_status status, uint64_t at, uint64_t orp
     (struct depot_wal_series[]){__VA_ARGS__}, \
         sizeof((struct depot_wal_series[]){__VA_ARGS__}) / sizeof(struct depot_wal_series)
 
+/* A report in a guarded place: what lies behind it shows if it is written. */
+static struct {
+    struct depot_wal_report report;
+    uint64_t behind;
+} night;
+
+static void new_night(void)
+{
+    memset(&night, PATTERN, sizeof night);
+    memset(&night.report, 0, offsetof(struct depot_wal_report, rows));
+}
+
+/* Adds the log to the report. Its first n rows are then as given, the others unchanged. */
+static void reports(int line, uint32_t version, depot_wal_status status, uint64_t at,
+                    uint64_t segments, const struct depot_wal_extremes *rows, size_t n)
+{
+    memset(buffer, 0x5C, sizeof buffer);
+    check(line, GIVES(depot_wal_report_segment(version, segment, log_len, buffer, sizeof buffer,
+                                               &night.report, &out->reported),
+                      status, REPORTED(.error_at = at)),
+          "report");
+    check(line, night.report.series == n && night.report.segments == segments, "the counts");
+    check(line, n == 0 || memcmp(night.report.rows, rows, n * sizeof *rows) == 0, "the series");
+    check(line, all((const uint8_t *)(night.report.rows + n),
+                    (DEPOT_WAL_SERIES_MAX - n) * sizeof *rows + sizeof night.behind, PATTERN),
+          "the other rows are unchanged");
+}
+#define EXTREMES(...) \
+    (struct depot_wal_extremes[]){__VA_ARGS__}, \
+        sizeof((struct depot_wal_extremes[]){__VA_ARGS__}) / sizeof(struct depot_wal_extremes)
+
+/* Rows as first met, NaN, equal readings, two segments, and what ends a report. */
+static void reported_rows(void)
+{
+    const uint64_t one = 0x3FF0000000000000, minus_zero = 0x8000000000000000,
+                   nan = 0x7FF8000000000001;
+    new_night();
+    new_log();
+    reports(__LINE__, V1, DONE, 0, 1, NULL, 0);
+    LOG(2, {.id = 8, .bits = nan}, {.id = 7, .bits = minus_zero}, {.id = 7});
+    reports(__LINE__, V1, DONE, 0, 2,
+            EXTREMES({.id = 8, .rows = 1, .nans = 1},
+                     {.id = 7, .rows = 2, .smallest = minus_zero, .largest = minus_zero}));
+    new_log();
+    LOG(2, {.id = 7, .bits = one}, {.id = 8, .bits = one});
+    size_t bad = log_bytes((const uint8_t[]){2, 1}, 2);
+    reports(__LINE__, V1, DEPOT_WAL_SHORT, bad, 3,
+            EXTREMES({.id = 8, .rows = 2, .nans = 1, .smallest = one, .largest = one},
+                     {.id = 7, .rows = 3, .smallest = minus_zero, .largest = one}));
+    reports(__LINE__, 3, DEPOT_WAL_BAD_NAME, 0, 4,
+            EXTREMES({.id = 8, .rows = 2, .nans = 1, .smallest = one, .largest = one},
+                     {.id = 7, .rows = 3, .smallest = minus_zero, .largest = one}));
+    new_night();
+    night.report.segments = DEPOT_WAL_NIGHT_MAX;
+    reports(__LINE__, V1, DEPOT_WAL_BAD_BUFFER, 0, DEPOT_WAL_NIGHT_MAX, NULL, 0);
+    reports(__LINE__, 3, DEPOT_WAL_BAD_BUFFER, 0, DEPOT_WAL_NIGHT_MAX, NULL, 0);
+    CHECK(night.report.error == DEPOT_WAL_BAD_BUFFER && night.report.error_at == 0);
+    new_night();
+    night.report.error = 3;
+    reports(__LINE__, V1, DEPOT_WAL_BAD_PLACE, 0, 0, NULL, 0);
+    /* 256 ids, then a record with a known one and a 257th */
+    new_night();
+    new_log();
+    for (uint64_t id = 0; id < 256; id++)
+        LOG(2, {.id = id});
+    size_t full = LOG(2, {.id = 0, .bits = one}, {.id = 256});
+    CHECK(GIVES(depot_wal_report_segment(V1, segment, log_len, buffer, sizeof buffer,
+                                         &night.report, &out->reported),
+                DEPOT_WAL_TABLE_FULL, REPORTED(.error_at = full)));
+    CHECK(night.report.series == 256 && night.report.rows[0].rows == 1 &&
+          night.report.rows[0].largest == 0);
+    CHECK(GIVES(depot_wal_report_segment(V1, segment, 0, buffer, sizeof buffer, &night.report,
+                                         &out->reported),
+                DEPOT_WAL_TABLE_FULL, REPORTED(.error_at = full)));
+}
+
 /* Rows: in the order first entered, orphans, equal, earlier and later times. */
 static void replayed_rows(void)
 {
@@ -2342,6 +2431,7 @@ int main(int argc, char **argv)
     corrupt_histograms();
     histogram_places();
     replayed_rows();
+    reported_rows();
     replayed_tombstones();
     replayed_histograms();
     replayed_limit();

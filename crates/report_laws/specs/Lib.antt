@@ -1,0 +1,4 @@
+pub mod PageClaims
+pub mod Laws
+pub mod Theorems
+pub mod StandIns
