@@ -17,6 +17,7 @@ pub mod refusal;
 pub mod replay;
 pub mod report;
 pub mod reporting;
+pub mod resume;
 pub mod rows;
 pub mod segment;
 pub mod selftest;
