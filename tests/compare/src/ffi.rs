@@ -9,6 +9,7 @@ pub mod index;
 pub mod names;
 pub mod replay;
 pub mod report;
+pub mod resume;
 
 pub use bodies::{
     add, body_check, body_start, bucket_at, entry_at, histogram_at, span_at, string_at,

@@ -11,6 +11,7 @@ pub mod logs;
 pub mod names;
 pub mod replay;
 pub mod report;
+pub mod resume;
 pub mod rng;
 pub mod rows;
 pub mod segments;

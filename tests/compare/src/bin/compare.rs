@@ -2,8 +2,8 @@
 //! on the real segments of a folder; nonzero on the first difference, with the seed and the case.
 
 use compare::rng::Rng;
-use compare::{bodies, checksums, feed, fixtures, index, names, replay, report, rows, segments};
-use compare::{versions, Group, Outcome};
+use compare::{bodies, checksums, feed, fixtures, index, names, replay, report, resume, rows};
+use compare::{segments, versions, Group, Outcome};
 use std::io::Write;
 use std::path::Path;
 use std::process::ExitCode;
@@ -58,6 +58,7 @@ fn groups() -> Vec<Group> {
         bodies::groups(),
         replay::groups(),
         report::groups(),
+        resume::groups(),
         index::groups(),
         versions::groups(),
         names::groups(),
