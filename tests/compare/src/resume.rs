@@ -42,9 +42,13 @@ struct Cuts {
 
 impl Cuts {
     fn new(rng: &mut Rng) -> Cuts {
+        Cuts::of_pages(rng, PAGES)
+    }
+
+    fn of_pages(rng: &mut Rng, pages: usize) -> Cuts {
         Cuts {
-            segment: Twin::new(rng, PAGES * PAGE),
-            length: PAGES * PAGE,
+            segment: Twin::new(rng, pages * PAGE),
+            length: pages * PAGE,
             version: 1,
             cases: 0,
         }
@@ -104,7 +108,8 @@ impl Cuts {
                 what()
             ));
         }
-        if self.length <= PAGES * PAGE && !self.segment.equal_to(self.length) {
+        // Of a slice at the limit the bytes are compared at the group's end.
+        if self.length < SEGMENT_MAX && !self.segment.equal_to(self.length) {
             let place = self.segment.first_difference();
             return Err(format!(
                 "{}, {}: the slice differs at {place:?}",
@@ -350,6 +355,17 @@ fn compare_foreign(rng: &mut Rng) -> Outcome {
         cuts.resume(sample.bytes.len())?;
         cuts.version = 3 - cuts.version;
         cuts.resume(sample.bytes.len())?;
+    }
+    Ok(cuts.cases)
+}
+
+/// A real segment, whole and cut anywhere.
+pub fn compare_file(rng: &mut Rng, bytes: &[u8]) -> Outcome {
+    let mut cuts = Cuts::of_pages(rng, bytes.len() / PAGE + 1);
+    for _ in 0..20 {
+        cuts.put(rng, Version::One, bytes);
+        cuts.resume(bytes.len())?;
+        cuts.resume(rng.below(bytes.len() + 1))?;
     }
     Ok(cuts.cases)
 }

@@ -97,6 +97,7 @@ fn compare_file(rng: &mut Rng, bytes: &[u8]) -> Outcome {
     let bodies = bodies::compare_file(rng, bytes)?;
     let replays = replay::compare_file(rng, bytes)?;
     let reports = report::compare_file(rng, bytes)?;
+    let cuts = resume::compare_file(rng, bytes)?;
     let indexes = index::compare_file(rng, bytes)?;
-    Ok(sums + reads + feeds + bodies + replays + reports + indexes)
+    Ok(sums + reads + feeds + bodies + replays + reports + cuts + indexes)
 }
