@@ -91,36 +91,43 @@ static void write_switch(unsigned scooter, unsigned from, unsigned to, int64_t t
     write_record(body, out.used, what);
 }
 
-/* Reads the bytes of the log that are there, and finds the place where writing resumes. Returns the
- * status that ended the reading. */
+/* Reads the bytes of the log that are there and prints where each record is. Returns the status
+ * that ended the reading. */
 static depot_wal_status read_log(size_t survived)
 {
     struct depot_wal_good good = {0, 0};
     struct depot_wal_record r;
     depot_wal_status status;
-    log_end = 0;
-    while ((status = depot_wal_read(DEPOT_WAL_V1, flash, survived, log_end, buffer, sizeof buffer,
+    size_t place = 0;
+    while ((status = depot_wal_read(DEPOT_WAL_V1, flash, survived, place, buffer, sizeof buffer,
                                     &good, &r)) == DEPOT_WAL_DONE) {
         printf("  record at %3" PRIu64 ", %" PRIu64 " bytes\n", r.start, r.length);
-        log_end = r.next;
+        place = r.next;
     }
-    if (status == DEPOT_WAL_END) {
-        size_t left = DEPOT_WAL_PAGE - log_end % DEPOT_WAL_PAGE;
-        if (left < DEPOT_WAL_HEADER) { /* too few for a record: padding, up to the next page */
-            memset(flash + log_end, 0, left);
-            log_end += left;
-        }
+    if (status == DEPOT_WAL_END)
         printf("  clean end\n");
-    } else if (status == DEPOT_WAL_TORN) {
-        log_end = r.start; /* over the truncated record */
+    else if (status == DEPOT_WAL_TORN)
         printf("  torn at %" PRIu64 ": a record begins here that was not finished;"
                " it does not count\n", r.start);
-    } else {
+    else
         printf("  at %" PRIu64 ": %s\n", r.start, depot_wal_status_text(status));
-    }
     printf("  good length: %" PRIu64 " whole records in the first %" PRIu64 " bytes; cut there,"
            " nothing whole is lost\n", good.records, good.offset);
     return status;
+}
+
+/* Finds the place where writing goes on, with the first record that did not come out. Returns
+ * whether there is one: a log that is corrupt has none. */
+static int resume_log(size_t survived)
+{
+    struct depot_wal_resumed out;
+    depot_wal_status status =
+        depot_wal_resume(DEPOT_WAL_V1, flash, sizeof flash, survived, &out);
+    if (status != DEPOT_WAL_DONE)
+        return 0;
+    log_end = out.next;
+    printf("  writing goes on at %zu, after %" PRIu64 " records\n", log_end, out.good.records);
+    return 1;
 }
 
 /* Replays the bytes of the log that are there and prints which profile is on. A record counts
@@ -165,7 +172,7 @@ int main(void)
     printf("The log has %zu bytes. The power fails when %zu of them stand. Read back:\n", log_end,
            cut);
     memset(flash + cut, 0, sizeof flash - cut);
-    if (read_log(cut) != DEPOT_WAL_TORN || !show_profiles(cut))
+    if (read_log(cut) != DEPOT_WAL_TORN || !show_profiles(cut) || !resume_log(cut))
         return 1;
 
     printf("Every scooter has exactly one profile on."

@@ -2,9 +2,10 @@
  * proved).
  *
  * A segment is a caller-owned buffer. Records of 1 to 65,536 bytes are written into it and read
- * back, seven types of record bodies are encoded and decoded, a log is replayed into a table of
- * what each series had last, an index beside a segment tells where each record is, a call tells how
- * big a partition must be, and the names of segments' files are parsed and made.
+ * back, also after a power failure, from which writing goes on. Seven types of record bodies are
+ * encoded and decoded, a log is replayed into a table of what each series had last, an index beside
+ * a segment tells where each record is, a call tells how big a partition must be, and the names of
+ * segments' files are parsed and made.
  * docs/FORMAT.md draws the bytes; examples/switch.c is a whole program. The archive is for Linux on
  * x86-64; beside the caller's memory it needs `memset` and `memcpy`.
  *
@@ -33,9 +34,7 @@
  *             fwrite(buffer, 1, record.length, stdout);
  *             place = record.next;
  *         }
- *         if (status == DEPOT_WAL_TORN)
- *             place = record.start; // resume writing here, over the truncated record
- *         else if (status != DEPOT_WAL_END) // start a new segment; what was whole is before here
+ *         if (status != DEPOT_WAL_END && status != DEPOT_WAL_TORN) // what was whole is before here
  *             fprintf(stderr, "%s, %zu bytes are good\n", depot_wal_status_text(status),
  *                     (size_t)good.offset);
  *         return 0;
@@ -53,9 +52,10 @@
  *   place of the error and the others are 0; at an end, and where more is asked for, all are 0.
  *   A call that writes: the first field, `next` or `used`, is what to pass to the next call. On an
  *   error that is the value which this call was given (0 when starting a body, building an index or
- *   making a name), so always go on with it. `error_at` is the place of the error, else 0.
+ *   making a name), so always go on with it; where resuming fails it is 0, and there is nothing to
+ *   go on with. `error_at` is the place of the error, else 0.
  *   A replay: `error_at` is the place of the error, else 0; the others always count.
- *   `good`, of a feed and of a replay, is the good length so far, whatever is returned (see there).
+ *   `good`, of resuming, a feed and a replay, is the good length so far, whatever is returned.
  *   A place is an offset in the segment or in the body.
  *   On an error or at an end nothing but *out has changed, and *good is as it was given; of the
  *   page feed and of a replay, see there.
@@ -64,8 +64,9 @@
  *   - Every pointer is valid for its length, `out`, `good`, `table` and `state` for their declared
  *     size, and aligned for its type. A pointer whose length is 0 may be NULL. `out`, `good`,
  *     `table` and `state` are never NULL.
- *   - What a call may write (the segment of a write, the buffer, `out`, `good`, `state`, a table to
- *     be filled) does not overlap anything else that is passed to the same call.
+ *   - What a call may write (the segment of a write or of resuming, the buffer, `out`, `good`,
+ *     `state`, a table to be filled) does not overlap anything else that is passed to the same
+ *     call.
  *   - Nobody else writes any of this memory while the call runs.
  *   Nothing more: any bytes, place, length, type and number get a defined result.
  *
@@ -78,7 +79,7 @@
  *     none of them writes memory that another one uses: a table, or a segment that is only read,
  *     may be shared.
  *   - Seen in the machine code, not proved: every call takes less than 5 KiB of stack, one on an
- *     index less than 14 KiB, a replay or a report less than 25 KiB, and none recurses.
+ *     index and resuming less than 14 KiB, a replay or a report less than 25 KiB, and none recurses.
  *
  * The versions of a segment
  *   A segment is of version 1, which stock Prometheus reads, or of version 2, whose checksum covers
@@ -109,13 +110,16 @@
  *     checksum alone. The number of flushed bytes, kept elsewhere and passed as segment_len, gives
  *     the promise of the section before.
  *
- * Resuming after a power failure (examples/switch.c does it)
- *   Read from place 0 until a read does not return DEPOT_WAL_DONE. It returns
- *   DEPOT_WAL_TORN  Resume writing at the place of the error, over the truncated record. Truncate
- *                   the medium there first: a second power failure must not leave old bytes after
- *                   new ones.
- *   DEPOT_WAL_END   Resume after the last record, at 0 if there is none. Where 1 to 6 bytes are
- *                   left in its page, set them to zero and resume at the next page.
+ * Starting again after a power failure (examples/switch.c does it)
+ *   Bring what survived back into the segment, which has whole pages, and call depot_wal_resume
+ *   with the number of these bytes. It reads them from the start, and returns
+ *   DEPOT_WAL_DONE  Go on writing at out.next, with the first record that did not come out: the one
+ *                   after out.good.records. It is behind the last record, or where the power cut
+ *                   one off, over what is left of that. Truncate the medium there first: a second
+ *                   power failure must not leave old bytes after new ones. Padding before it that
+ *                   did not survive is zero in the segment now: bring it to the medium too. Once
+ *                   the same records are written, the segment is byte for byte as if the power had
+ *                   never failed, however often it does.
  *   otherwise       These bytes are not a log of this library that was cut off: they are corrupt,
  *                   or of another program. Keep them for whoever looks into it, and start a new
  *                   segment.
@@ -124,7 +128,7 @@
  *   Every answer of a reading, the errors too, comes with a struct depot_wal_good: how many records
  *   were whole up to it, and the offset just past the last of them. Truncate a copy of the medium
  *   there, and nothing that was whole is lost. A reading begins with {0, 0} and passes to each read
- *   the good length as the read before left it. To resume writing, see above.
+ *   the good length as the read before left it. To write on, see above.
  */
 #ifndef DEPOT_WAL_H
 #define DEPOT_WAL_H
@@ -270,7 +274,14 @@ struct depot_wal_good {
 struct depot_wal_record {
     uint64_t start;  /* the place of its first fragment; on an error: the place of the error */
     uint64_t length; /* its bytes, which are the first of the buffer */
-    uint64_t next;   /* the place after it, for the next read; for a write see "Resuming" above */
+    uint64_t next;   /* the place after it, for the next read; for a write see depot_wal_resume */
+};
+
+/* Of resuming. */
+struct depot_wal_resumed {
+    uint64_t next;              /* the place for the next write; on an error: 0 */
+    uint64_t error_at;          /* the place of the error, else 0 */
+    struct depot_wal_good good; /* the records that came out, and where the last of them ends */
 };
 
 /* Of feeding a page. */
@@ -424,8 +435,8 @@ struct depot_wal_named {
 typedef char depot_wal_layout[
     sizeof(struct depot_wal_written) == 2 * 8 && sizeof(struct depot_wal_built) == 2 * 8 &&
     sizeof(struct depot_wal_good) == 2 * 8 && sizeof(struct depot_wal_record) == 3 * 8 &&
-    sizeof(struct depot_wal_fed) == 3 * 8 && sizeof(struct depot_wal_feed_record) == 5 * 8 &&
-    sizeof(struct depot_wal_count) == 1 * 8 &&
+    sizeof(struct depot_wal_resumed) == 4 * 8 && sizeof(struct depot_wal_fed) == 3 * 8 &&
+    sizeof(struct depot_wal_feed_record) == 5 * 8 && sizeof(struct depot_wal_count) == 1 * 8 &&
     sizeof(struct depot_wal_entry) == 8 * 8 && sizeof(struct depot_wal_string) == 2 * 8 &&
     sizeof(struct depot_wal_list) == 2 * 8 && sizeof(struct depot_wal_histogram) == 18 * 8 &&
     sizeof(struct depot_wal_span) == 3 * 8 && sizeof(struct depot_wal_bucket) == 2 * 8 &&
@@ -487,6 +498,22 @@ depot_wal_status depot_wal_write(uint32_t version, uint8_t *segment, size_t segm
 depot_wal_status depot_wal_read(uint32_t version, const uint8_t *segment, size_t segment_len,
                                 size_t place, uint8_t *buffer, size_t buffer_len,
                                 struct depot_wal_good *good, struct depot_wal_record *out);
+
+/* Where to go on writing after a power failure, in a segment of which the first `survived` bytes
+ * are there. They are read from the start; no record is copied.
+ * Result: where they end inside a record, its start; where they end clean, the place behind the
+ * last record, or the next page where 1 to 6 bytes are left in its page: these are set to zero. So
+ * zeros behind the last record, as of an empty page, are written over. The good length, also on an
+ * error, is of the records that came out.
+ * Errors, with error_at; `next` is 0:
+ *   DEPOT_WAL_BAD_NAME    0  no such version
+ *   DEPOT_WAL_BAD_BUFFER  0  the segment is not one or more whole pages, or is above
+ *                            DEPOT_WAL_SEGMENT_MAX
+ *   DEPOT_WAL_BAD_PLACE   0  `survived` is beyond the segment
+ *   then those of depot_wal_read about the bytes, DEPOT_WAL_TORN aside
+ * Changes: at most the 6 bytes before the new `next`, and *out. */
+depot_wal_status depot_wal_resume(uint32_t version, uint8_t *segment, size_t segment_len,
+                                  size_t survived, struct depot_wal_resumed *out);
 
 /* ---- the page feed: a segment read page by page, for those who cannot hold it whole ---- */
 

@@ -45,6 +45,7 @@ union result {
     struct depot_wal_written written;
     struct depot_wal_built built;
     struct depot_wal_record record;
+    struct depot_wal_resumed resumed;
     struct depot_wal_fed fed;
     struct depot_wal_feed_record feed_record;
     struct depot_wal_count count;
@@ -78,6 +79,7 @@ static int gives(depot_wal_status got, depot_wal_status status, const void *want
 #define WRITTEN(...) &(struct depot_wal_written){__VA_ARGS__}, sizeof(struct depot_wal_written)
 #define BUILT(...) &(struct depot_wal_built){__VA_ARGS__}, sizeof(struct depot_wal_built)
 #define RECORD(...) &(struct depot_wal_record){__VA_ARGS__}, sizeof(struct depot_wal_record)
+#define RESUMED(...) &(struct depot_wal_resumed){__VA_ARGS__}, sizeof(struct depot_wal_resumed)
 #define FED(...) &(struct depot_wal_fed){__VA_ARGS__}, sizeof(struct depot_wal_fed)
 #define FEED_RECORD(...) \
     &(struct depot_wal_feed_record){__VA_ARGS__}, sizeof(struct depot_wal_feed_record)
@@ -132,6 +134,10 @@ static void layouts(void)
     FIELD(depot_wal_record, 2, next);
     FIELD(depot_wal_good, 0, records);
     FIELD(depot_wal_good, 1, offset);
+    FIELD(depot_wal_resumed, 0, next);
+    FIELD(depot_wal_resumed, 1, error_at);
+    FIELD(depot_wal_resumed, 2, good.records);
+    FIELD(depot_wal_resumed, 3, good.offset);
     FIELD(depot_wal_fed, 0, error_at);
     FIELD(depot_wal_fed, 1, good.records);
     FIELD(depot_wal_fed, 2, good.offset);
@@ -707,6 +713,174 @@ static void several_records(void)
         else
             reads_none(__LINE__, segment, cut, starts_at[k], DEPOT_WAL_END, 0);
     }
+}
+
+/* ---- resuming ---- */
+
+/* A log of n records in two pages: their lengths, where each starts and, last, the final place, and
+ * where the last fragment of each ends. */
+struct log {
+    size_t n, lengths[4], starts[5], ends[4];
+};
+
+static const struct log logs[] = {
+    /* three bytes are left in the first page */
+    {4, {100, 32651, 1, 50}, {0, 107, 32768, 32776, 32833}, {107, 32765, 32776, 32833}},
+    /* a record goes over two pages */
+    {3, {40, 32800, 9}, {0, 47, 32861, 32877}, {47, 32861, 32877}},
+    /* seven are left: a fragment without data */
+    {3, {32754, 20, 5}, {0, 32761, 32795, 32807}, {32761, 32795, 32807}},
+    /* six are left, behind the last record */
+    {1, {32755}, {0, 32768}, {32762}},
+};
+enum { LOGS = sizeof logs / sizeof *logs };
+
+static uint8_t uncut[2 * PAGE], gone[2 * PAGE]; /* the log that was never cut; what no write left */
+
+/* The power fails: what is behind the cut is gone. */
+static void cut_log(size_t cut)
+{
+    memcpy(segment + cut, gone + cut, sizeof gone - cut);
+}
+
+/* Writes the records from number `first` on. */
+static void write_on(uint32_t version, const struct log *log, size_t first, size_t place)
+{
+    for (size_t i = first; i < log->n; i++) {
+        CHECK(place == log->starts[i]);
+        CHECK(depot_wal_write(version, segment, sizeof uncut, place, record + i, log->lengths[i],
+                              &out->written) == DONE);
+        place = out->written.next;
+    }
+    CHECK(place == log->starts[log->n]);
+}
+
+/* Resumes after a cut, and writes what did not come out: the log is that which was never cut. */
+static void resumes(uint32_t version, const struct log *log, size_t cut)
+{
+    size_t k = 0, end = log->starts[log->n]; /* k records lie wholly before the cut */
+    while (k < log->n && log->ends[k] <= cut)
+        k++;
+    size_t next = log->starts[k], kept = next < cut ? cut : next;
+    CHECK(GIVES(depot_wal_resume(version, segment, sizeof uncut, cut, &out->resumed), DONE,
+                RESUMED(.next = next, .good = {k, k ? log->ends[k - 1] : 0})));
+    CHECK(memcmp(segment, uncut, kept) == 0); /* with the padding before the place */
+    CHECK(memcmp(segment + kept, gone + kept, sizeof gone - kept) == 0);
+    write_on(version, log, k, next);
+    CHECK(memcmp(segment, uncut, end) == 0);
+}
+
+static void write_uncut(uint32_t version, const struct log *log)
+{
+    memset(gone, 0xA5, sizeof gone);
+    memcpy(segment, gone, sizeof gone);
+    write_on(version, log, 0, 0);
+    memcpy(uncut, segment, sizeof uncut);
+}
+
+/* Cut at every byte. */
+static void resumed_anywhere(uint32_t version, const struct log *log)
+{
+    write_uncut(version, log);
+    for (size_t cut = 0; cut <= log->starts[log->n]; cut++) {
+        cut_log(cut);
+        resumes(version, log, cut);
+    }
+}
+
+/* Cut near where a record starts or ends, and twice more while it is resumed. */
+static void resumed_again(uint32_t version, const struct log *log)
+{
+    size_t cuts[32], n = 0, end = log->starts[log->n];
+    for (size_t i = 0; i < log->n; i++)
+        for (size_t d = 0; d < 3; d++) {
+            cuts[n++] = log->starts[i] + d;
+            cuts[n++] = log->ends[i] - 1 + d;
+        }
+    write_uncut(version, log);
+    for (size_t i = 0; i < n * n * n; i++) {
+        size_t a = cuts[i / n / n], b = cuts[i / n % n], c = cuts[i % n];
+        if (a <= b && b <= c && c <= end) {
+            cut_log(a);
+            resumes(version, log, a);
+            cut_log(b);
+            resumes(version, log, b);
+            cut_log(c);
+            resumes(version, log, c);
+        }
+    }
+}
+
+static void resumed_logs(void)
+{
+    fill_record();
+    for (size_t i = 0; i < LOGS; i++)
+        for (uint32_t version = V1; version <= V2; version++) {
+            resumed_anywhere(version, &logs[i]);
+            resumed_again(version, &logs[i]);
+        }
+}
+
+/* Resuming fails, and no byte of the segment changes. */
+static void resume_fails(int line, size_t segment_len, size_t survived, depot_wal_status status,
+                         size_t error_at, size_t records, size_t offset)
+{
+    memcpy(uncut, segment, sizeof uncut);
+    check(line, GIVES(depot_wal_resume(V1, segment, segment_len, survived, &out->resumed), status,
+                      RESUMED(.error_at = error_at, .good = {records, offset})), "refused");
+    check(line, memcmp(segment, uncut, sizeof uncut) == 0, "no byte changes");
+}
+
+/* Resuming finds a place, and no byte of the segment changes. */
+static void resumes_at(int line, size_t survived, size_t next, size_t records, size_t offset)
+{
+    memcpy(uncut, segment, sizeof uncut);
+    check(line, GIVES(depot_wal_resume(V1, segment, sizeof uncut, survived, &out->resumed), DONE,
+                      RESUMED(.next = next, .good = {records, offset})), "resumed");
+    check(line, memcmp(segment, uncut, sizeof uncut) == 0, "no byte changes");
+}
+
+static void resume_errors(void)
+{
+    fill_record();
+    memset(segment, 0xAA, sizeof segment);
+    resume_fails(__LINE__, 0, 0, DEPOT_WAL_BAD_BUFFER, 0, 0, 0);
+    resume_fails(__LINE__, PAGE - 1, 0, DEPOT_WAL_BAD_BUFFER, 0, 0, 0);
+    resume_fails(__LINE__, PAGE + 1, PAGE + 2, DEPOT_WAL_BAD_BUFFER, 0, 0, 0); /* before 2 */
+    CHECK(GIVES(depot_wal_resume(V1, NULL, 0, 0, &out->resumed), DEPOT_WAL_BAD_BUFFER,
+                RESUMED(.next = 0)));
+    CHECK(GIVES(depot_wal_resume(V1, huge, LIMIT + PAGE, 0, &out->resumed), DEPOT_WAL_BAD_BUFFER,
+                RESUMED(.next = 0)));
+    resume_fails(__LINE__, PAGE, PAGE + 1, DEPOT_WAL_BAD_PLACE, 0, 0, 0);
+    resume_fails(__LINE__, PAGE, SIZE_MAX, DEPOT_WAL_BAD_PLACE, 0, 0, 0);
+    resume_fails(__LINE__, PAGE, 1, DEPOT_WAL_RESERVED, 0, 0, 0);
+    /* A record of 37 bytes from 0 to 44, and one that is damaged. */
+    writes(__LINE__, PAGE, 0, 37, 44);
+    writes(__LINE__, PAGE, 44, 5, 56);
+    segment[55] ^= 1;
+    resume_fails(__LINE__, PAGE, 56, DEPOT_WAL_BAD_SUM, 44, 1, 44);
+    resumes_at(__LINE__, 55, 44, 1, 44); /* torn before the sum is looked at */
+    /* Its type byte, 1, with zeros behind it. */
+    memset(segment + 45, 0, sizeof segment - 45);
+    resume_fails(__LINE__, 2 * PAGE, 2 * PAGE, DEPOT_WAL_HOLLOW, 44, 1, 44);
+}
+
+/* Bytes that no list of writes left, which are read clean. */
+static void resume_foreign(void)
+{
+    fill_record();
+    memset(segment, 0, sizeof segment);
+    resumes_at(__LINE__, 2 * PAGE, 0, 0, 0); /* zeros alone */
+    writes(__LINE__, 2 * PAGE, 0, 37, 44);
+    resumes_at(__LINE__, 2 * PAGE, 44, 1, 44); /* zeros behind the last record are written over */
+    writes(__LINE__, 2 * PAGE, PAGE, 5, PAGE + 12);
+    resumes_at(__LINE__, PAGE + 2, PAGE, 1, 44); /* torn after the rest of an empty page */
+    resumes_at(__LINE__, PAGE + 12, PAGE + 12, 2, PAGE + 12);
+    writes(__LINE__, PAGE, 44, 32717, PAGE); /* a full page */
+    resumes_at(__LINE__, PAGE, PAGE, 2, PAGE);
+    writes(__LINE__, 2 * PAGE, PAGE, 32761, 2 * PAGE); /* and all of it: no room is left */
+    resumes_at(__LINE__, 2 * PAGE, 2 * PAGE, 3, 2 * PAGE);
+    write_fails(__LINE__, 2 * PAGE, 2 * PAGE, 1, DEPOT_WAL_NO_ROOM, 2 * PAGE);
 }
 
 /* ---- the page feed ---- */
@@ -2338,6 +2512,10 @@ static void hello_elsewhere(uint32_t version, uint32_t other)
                 DEPOT_WAL_BAD_INDEX, COUNT(.count = 0)));
     CHECK(GIVES(depot_wal_index_extend(version, segment, 12, index_file, 20, 20, &out->indexed),
                 DONE, INDEXED(.used = 20)));
+    CHECK(GIVES(depot_wal_resume(version, segment, PAGE, 12, &out->resumed), DONE,
+                RESUMED(.next = 12, .good = {1, 12})));
+    CHECK(GIVES(depot_wal_resume(other, segment, PAGE, 12, &out->resumed), DEPOT_WAL_BAD_SUM,
+                RESUMED(.next = 0)));
 }
 
 /* A number that no version has: before everything else, and nothing changes. */
@@ -2360,6 +2538,8 @@ static void no_version(uint32_t version)
                                           &good, &out->record),
                 DEPOT_WAL_BAD_NAME, RECORD(.start = 0)));
     CHECK(good.records == 9 && good.offset == 3);
+    CHECK(GIVES(depot_wal_resume(version, segment, 7, 99, &out->resumed), DEPOT_WAL_BAD_NAME,
+                RESUMED(.next = 0)));
     CHECK(GIVES(depot_wal_replay(version, segment, PAGE, buffer, 7, rows, &out->replayed),
                 DEPOT_WAL_BAD_NAME, REPLAYED(.error_at = 0)));
     CHECK(GIVES(depot_wal_replay_strict(version, segment, PAGE, buffer, sizeof buffer, rows,
@@ -2410,6 +2590,9 @@ int main(int argc, char **argv)
     corrupt_bytes();
     foreign_bytes();
     several_records();
+    resumed_logs();
+    resume_errors();
+    resume_foreign();
     feed_order();
     feed_limits();
     feed_cuts();
