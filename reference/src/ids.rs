@@ -1,7 +1,9 @@
-//! From an id to its row, for the tables of series: a row of samples costs the same whatever their
-//! number.
+//! From an id to its row, for the tables of series, and a set of ids: a row of samples costs the same
+//! whatever their number.
 
 use crate::body::SeriesId;
+use std::collections::HashSet;
+use std::hash::{BuildHasherDefault, Hasher};
 
 /// The most series that a table has.
 pub const SERIES_MAX: usize = 256;
@@ -62,9 +64,46 @@ impl Index {
     }
 }
 
-/// The top bits of the id times 2^64 over the golden ratio: ids in a row are spread far apart.
 #[inline(always)]
 fn first_slot(id: SeriesId) -> usize {
-    let product = id.0.wrapping_mul(0x9E37_79B9_7F4A_7C15);
-    (product >> (u64::BITS - SLOTS.trailing_zeros())) as usize
+    (spread(id.0) >> (u64::BITS - SLOTS.trailing_zeros())) as usize
+}
+
+/// The id times 2^64 over the golden ratio: by the top bits, ids in a row are spread far apart.
+#[inline(always)]
+fn spread(id: u64) -> u64 {
+    id.wrapping_mul(0x9E37_79B9_7F4A_7C15)
+}
+
+/// Any number of ids.
+pub(crate) struct Set(HashSet<u64, BuildHasherDefault<Spread>>);
+
+impl Set {
+    pub(crate) fn of(ids: &[SeriesId]) -> Set {
+        Set(ids.iter().map(|id| id.0).collect())
+    }
+
+    #[inline(always)]
+    pub(crate) fn has(&self, id: SeriesId) -> bool {
+        self.0.contains(&id.0)
+    }
+}
+
+/// The hash of an id has its top bits below too.
+#[derive(Default)]
+struct Spread(u64);
+
+impl Hasher for Spread {
+    fn write(&mut self, _: &[u8]) {
+        unreachable!("ids are hashed as numbers")
+    }
+
+    #[inline(always)]
+    fn write_u64(&mut self, id: u64) {
+        self.0 = spread(id) ^ spread(id) >> 32;
+    }
+
+    fn finish(&self) -> u64 {
+        self.0
+    }
 }
