@@ -4,6 +4,7 @@
 
 pub mod bare;
 mod bodies;
+pub mod checkpoint;
 pub mod feed;
 pub mod index;
 pub mod names;

@@ -1,6 +1,7 @@
 //! The comparison of the archive with the second program.
 
 pub mod bodies;
+pub mod checkpoint;
 pub mod checksums;
 pub mod feed;
 pub mod ffi;

@@ -145,7 +145,7 @@ fn new_sample<'a>((id, time, bits): (u64, i64, u64)) -> NewEntry<'a> {
     NewEntry::Sample(sample((id, time, bits)))
 }
 
-fn sample((id, time, bits): (u64, i64, u64)) -> body::Sample {
+pub fn sample((id, time, bits): (u64, i64, u64)) -> body::Sample {
     let (id, time) = (SeriesId(id), Timestamp(time));
     body::Sample { id, time, bits }
 }
@@ -346,7 +346,7 @@ impl World {
 }
 
 /// A histogram of this id, time and sum.
-fn histogram<B>((id, time, sum): (u64, i64, u64), buckets: &[B]) -> NewHistogram<'_, B> {
+pub fn histogram<B>((id, time, sum): (u64, i64, u64), buckets: &[B]) -> NewHistogram<'_, B> {
     let (offsets, lengths) = (&[-1, i32::MAX], &[2, u32::MAX]);
     NewHistogram {
         id: SeriesId(id),

@@ -2,8 +2,8 @@
 //! on the real segments of a folder; nonzero on the first difference, with the seed and the case.
 
 use compare::rng::Rng;
-use compare::{bodies, checksums, feed, fixtures, index, names, replay, report, resume, rows};
-use compare::{segments, versions, Group, Outcome};
+use compare::{bodies, checkpoint, checksums, feed, fixtures, index, names, replay, report};
+use compare::{resume, rows, segments, versions, Group, Outcome};
 use std::io::Write;
 use std::path::Path;
 use std::process::ExitCode;
@@ -59,6 +59,7 @@ fn groups() -> Vec<Group> {
         replay::groups(),
         report::groups(),
         resume::groups(),
+        checkpoint::groups(),
         index::groups(),
         versions::groups(),
         names::groups(),
@@ -98,6 +99,7 @@ fn compare_file(rng: &mut Rng, bytes: &[u8]) -> Outcome {
     let replays = replay::compare_file(rng, bytes)?;
     let reports = report::compare_file(rng, bytes)?;
     let cuts = resume::compare_file(rng, bytes)?;
+    let checkpoints = checkpoint::compare_file(rng, bytes)?;
     let indexes = index::compare_file(rng, bytes)?;
-    Ok(sums + reads + feeds + bodies + replays + reports + cuts + indexes)
+    Ok(sums + reads + feeds + bodies + replays + reports + cuts + checkpoints + indexes)
 }

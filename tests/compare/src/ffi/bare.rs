@@ -4,6 +4,7 @@
 use super::bodies::{
     depot_wal_add_sample, depot_wal_body_check, depot_wal_body_start, depot_wal_entry_at,
 };
+use super::checkpoint::{depot_wal_checkpoint, Lent};
 use super::feed::{depot_wal_feed_page, depot_wal_feed_read, depot_wal_feed_start, State as Feed};
 use super::index::depot_wal_index_build;
 use super::replay::{depot_wal_replay, SeriesTable, OUT_LEN as REPLAY_OUT};
@@ -132,6 +133,31 @@ pub fn replay(
     let (room, room_len) = (buffer.as_mut_ptr(), buffer.len());
     let (table, out) = (table.as_mut_ptr(), out.as_mut_ptr());
     unsafe { depot_wal_replay(version, bytes, length, room, room_len, table, out) }
+}
+
+// ---- The checkpoint ----
+
+#[inline]
+pub fn checkpoint(version: u32, ids: &[u64], time: i64, lent: Lent, out: &mut [u64; 2]) -> u32 {
+    let (source, target) = (lent.source, lent.target);
+    let (work, body) = (lent.work, lent.body);
+    unsafe {
+        depot_wal_checkpoint(
+            version,
+            source.as_ptr(),
+            source.len(),
+            ids.as_ptr(),
+            ids.len(),
+            time,
+            target.as_mut_ptr(),
+            target.len(),
+            work.as_mut_ptr(),
+            work.len(),
+            body.as_mut_ptr(),
+            body.len(),
+            out.as_mut_ptr(),
+        )
+    }
 }
 
 // ---- The index ----

@@ -14,7 +14,7 @@ pub const REPORT_LEN: usize = HEAD_LEN + 256 * ROW_LEN;
 pub type Numbers = [u64; REPORT_LEN];
 
 extern "C" {
-    pub(super) fn depot_wal_report_segment(
+    fn depot_wal_report_segment(
         version: u32,
         segment: *const u8,
         segment_len: usize,

@@ -5,6 +5,7 @@
 //! `bench list`: the second program's listing of standard input. `bench report NAME..`: its report.
 
 mod bodies;
+mod checkpoint;
 mod checksum;
 mod feed;
 mod hardware;
@@ -47,6 +48,7 @@ fn main() {
         bodies::bench(),
         replay::bench(),
         report::bench(&reports(&words)),
+        checkpoint::bench(),
     ];
     println!(
         "bench: time of the second program / ours plain, / ours with table, and of sse4.2 / ours \

@@ -102,7 +102,7 @@ impl Log {
 }
 
 /// The id of a series, counted from 0.
-fn id(index: usize) -> SeriesId {
+pub fn id(index: usize) -> SeriesId {
     SeriesId(7 + index as u64)
 }
 
