@@ -1,4 +1,5 @@
-# make demo      the main job, shown: switches written, the power cut in the middle of one, what comes back
+# make demo      the main job, shown: switches written, the power cut in the middle of one, what comes back;
+#                then a checkpoint into the spare partition, with the power cut at every step
 # make test      everything that has to hold: rt ci, then the comparisons (tools/gate); .ci/run calls it
 # make bench     our speed beside the second program's and the SSE4.2 instruction's, in one run (about a minute)
 # make valgrind  the C test and the listing on hostile inputs under valgrind (slow, not part of the test)
@@ -17,6 +18,8 @@ demo: $(ARCHIVE)
 	@mkdir -p build
 	@gcc $(CFLAGS) examples/switch.c $(ARCHIVE) -o build/switch
 	@build/switch
+	@gcc $(CFLAGS) examples/checkpoint.c $(ARCHIVE) -o build/checkpoint
+	@build/checkpoint
 
 test:
 	@tools/gate

@@ -3,11 +3,12 @@
  *
  * A segment is a caller-owned buffer. Records of 1 to 65,536 bytes are written into it and read
  * back, also after a power failure, from which writing goes on. Seven types of record bodies are
- * encoded and decoded, a log is replayed into a table of what each series had last, an index beside
- * a segment tells where each record is, a call tells how big a partition must be, and the names of
- * segments' files are parsed and made.
- * docs/FORMAT.md draws the bytes; examples/switch.c is a whole program. The archive is for Linux on
- * x86-64; beside the caller's memory it needs `memset` and `memcpy`.
+ * encoded and decoded, a log is replayed into a table of what each series had last, a report says
+ * between which readings each series lies, a checkpoint writes what is still wanted of a segment to
+ * a new one, an index beside a segment tells where each record is, a call tells how big a partition
+ * must be, and the names of segments' files are parsed and made.
+ * docs/FORMAT.md draws the bytes; examples/switch.c and examples/checkpoint.c are whole programs.
+ * The archive is for Linux on x86-64; beside the caller's memory it needs `memset` and `memcpy`.
  *
  * An example (`make test` compiles and runs it)
  *
@@ -55,18 +56,19 @@
  *   making a name), so always go on with it; where resuming fails it is 0, and there is nothing to
  *   go on with. `error_at` is the place of the error, else 0.
  *   A replay: `error_at` is the place of the error, else 0; the others always count.
+ *   A checkpoint: `next` is where its records end in the target; `error_at` as in a replay.
  *   `good`, of resuming, a feed and a replay, is the good length so far, whatever is returned.
  *   A place is an offset in the segment or in the body.
  *   On an error or at an end nothing but *out has changed, and *good is as it was given; of the
- *   page feed and of a replay, see there.
+ *   page feed, of a replay and of a checkpoint, see there.
  *
  * What the caller owes
  *   - Every pointer is valid for its length, `out`, `good`, `table` and `state` for their declared
  *     size, and aligned for its type. A pointer whose length is 0 may be NULL. `out`, `good`,
  *     `table` and `state` are never NULL.
- *   - What a call may write (the segment of a write or of resuming, the buffer, `out`, `good`,
- *     `state`, a table to be filled) does not overlap anything else that is passed to the same
- *     call.
+ *   - What a call may write (the segment of a write or of resuming, the buffer, a checkpoint's
+ *     target and its two buffers, `out`, `good`, `state`, a report, a table to be filled) does not
+ *     overlap anything else that is passed to the same call.
  *   - Nobody else writes any of this memory while the call runs.
  *   Nothing more: any bytes, place, length, type and number get a defined result.
  *
@@ -79,7 +81,8 @@
  *     none of them writes memory that another one uses: a table, or a segment that is only read,
  *     may be shared.
  *   - Seen in the machine code, not proved: every call takes less than 5 KiB of stack, one on an
- *     index and resuming less than 14 KiB, a replay or a report less than 25 KiB, and none recurses.
+ *     index and resuming less than 14 KiB, a replay or a report less than 25 KiB, a checkpoint less
+ *     than 30 KiB, and none recurses.
  *
  * The versions of a segment
  *   A segment is of version 1, which stock Prometheus reads, or of version 2, whose checksum covers
@@ -87,7 +90,7 @@
  *   reads or writes a segment is told it, and a segment is read as the version that it was written
  *   in: read as the other one, its records are DEPOT_WAL_BAD_SUM. Any other number is
  *   DEPOT_WAL_BAD_NAME with place 0, before all else, and nothing but *out changes; a feed is then
- *   started for version 1.
+ *   started for version 1, and of a checkpoint see there.
  *
  * From memory to the medium
  *   A call works on memory, and a write stores its bytes there in no promised order. The caller
@@ -401,6 +404,12 @@ struct depot_wal_report {
     struct depot_wal_extremes rows[DEPOT_WAL_SERIES_MAX];
 };
 
+/* Of a checkpoint. */
+struct depot_wal_checkpointed {
+    uint64_t next;     /* the place in the target where its records end: that of the next write */
+    uint64_t error_at; /* the place of the error in the source, else 0 */
+};
+
 /* Of building or extending an index. */
 struct depot_wal_indexed {
     uint64_t used;     /* the bytes of the index; on an error: as many as the call was given */
@@ -443,6 +452,7 @@ typedef char depot_wal_layout[
     sizeof(struct depot_wal_replayed) == 6 * 8 && sizeof(struct depot_wal_series) == 5 * 8 &&
     sizeof(struct depot_wal_reported) == 1 * 8 && sizeof(struct depot_wal_extremes) == 5 * 8 &&
     sizeof(struct depot_wal_report) == DEPOT_WAL_REPORT_LEN * 8 &&
+    sizeof(struct depot_wal_checkpointed) == 2 * 8 &&
     sizeof(struct depot_wal_indexed) == 2 * 8 && sizeof(struct depot_wal_row) == 2 * 8 &&
     sizeof(struct depot_wal_pages) == 1 * 8 &&
     sizeof(struct depot_wal_name) == 2 * 8 && sizeof(struct depot_wal_named) == 2 * 8
@@ -852,6 +862,60 @@ depot_wal_status depot_wal_report_segment(uint32_t version,
                                           uint8_t *buffer, size_t buffer_len,
                                           struct depot_wal_report *report,
                                           struct depot_wal_reported *out);
+
+/* ---- a checkpoint ---- */
+
+/* A log grows until its partition is full, and most of what it has is no longer wanted: series of
+ * scooters that have left, switches of long ago. A checkpoint writes what is still wanted to a new
+ * segment. A box with two partitions (examples/checkpoint.c does it, and cuts the power at every
+ * step):
+ *   1. Write a record with what each series has now. Older samples are then no longer wanted.
+ *   2. depot_wal_checkpoint, from the partition in use into memory of the size of the spare one.
+ *   3. Store the bytes before `next` in the spare partition, and flush them.
+ *   4. Read them back from the medium: they must be the same, and give DEPOT_WAL_END behind the
+ *      last record. If not, the spare partition is bad; the one in use is as it was.
+ *   5. Only then switch over: store, in one sector, which partition is in use and how many bytes of
+ *      it are there. Flush that. The next record goes to `next` of the new one.
+ * A power failure before the switch-over leaves the old partition in use, of which nothing has
+ * changed: the call only reads it. What then stands in the spare one is not looked at, and the next
+ * attempt starts at 1. A power failure after it leaves the new partition in use, and it is whole.
+ * So the sector is all that must be stored wholly or not at all. Between 2 and 5 nothing is written
+ * to the old partition, or it would be missing in the new one. */
+
+/* Writes to `target` what is kept of `source`, a segment that ends clean. Kept are, in their order,
+ * the entries whose id is in `ids` (in any order; ascending ids are found faster), and of these
+ *   - series and metadata: all of them;
+ *   - samples, exemplars and histograms: at or after `time`;
+ *   - tombstones: those whose max is at or after `time`.
+ * Each record is encoded anew of its kept entries: its first id and time are those of its first
+ * kept row. So a record may grow. One of which nothing is kept is not written, nor is one whose
+ * first byte is not in enum depot_wal_type. `version` is the source's; the target is written in it.
+ * Result: the place for the next write; read before it, the target gives what was kept, then
+ * DEPOT_WAL_END. A checkpoint of that, with the same ids and time and in a target of the same
+ * length, has the same bytes. Where nothing is kept, `next` is 0.
+ * Errors, with error_at, which is a place of the source:
+ *   DEPOT_WAL_BAD_NAME     0         no such version
+ *   DEPOT_WAL_BAD_BUFFER   0         `work` or `body` is below DEPOT_WAL_RECORD_MAX, the target is
+ *                                    not one or more whole pages or above DEPOT_WAL_SEGMENT_MAX, or
+ *                                    the source is above that
+ *   of depot_wal_read      as there  a record cannot be read; DEPOT_WAL_TORN too
+ *   of depot_wal_body_check  record  the body of a record cannot be read; never
+ *                                    DEPOT_WAL_UNKNOWN_TYPE
+ *   DEPOT_WAL_TOO_LONG     record    the record encoded anew is above DEPOT_WAL_RECORD_MAX
+ *   DEPOT_WAL_NO_ROOM      record    it does not fit into the rest of the target
+ * "record" is the start of that record in the source. Of the third and the fourth the first along
+ * the source counts, and the whole source is gone through for them before anything is written:
+ * `next` is 0 then, as before. At one of the last two, which are checked for each record in this
+ * order, the records before stand in the target, and `next` is where they end.
+ * Changes: the bytes of the target before `next`, *out, and the two buffers, which are the call's
+ * own: whatever it returns, both are zero in their whole length, if both have at least
+ * DEPOT_WAL_RECORD_MAX bytes; else both are as they were. */
+depot_wal_status depot_wal_checkpoint(uint32_t version, const uint8_t *source, size_t source_len,
+                                      const uint64_t *ids, size_t ids_len, int64_t time,
+                                      uint8_t *target, size_t target_len,
+                                      uint8_t *work, size_t work_len,
+                                      uint8_t *body, size_t body_len,
+                                      struct depot_wal_checkpointed *out);
 
 /* ---- the index beside a segment ---- */
 

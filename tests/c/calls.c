@@ -56,6 +56,7 @@ union result {
     struct depot_wal_bucket bucket;
     struct depot_wal_replayed replayed;
     struct depot_wal_reported reported;
+    struct depot_wal_checkpointed checkpointed;
     struct depot_wal_indexed indexed;
     struct depot_wal_row row;
     struct depot_wal_pages pages;
@@ -97,6 +98,8 @@ static int gives(depot_wal_status got, depot_wal_status status, const void *want
 #define NAMED(...) &(struct depot_wal_named){__VA_ARGS__}, sizeof(struct depot_wal_named)
 #define REPORTED(...) &(struct depot_wal_reported){__VA_ARGS__}, sizeof(struct depot_wal_reported)
 #define REPLAYED(...) &(struct depot_wal_replayed){__VA_ARGS__}, sizeof(struct depot_wal_replayed)
+#define CHECKPOINTED(...) \
+    &(struct depot_wal_checkpointed){__VA_ARGS__}, sizeof(struct depot_wal_checkpointed)
 
 /* Writes bytes given as text in hexadecimal; blanks do not matter. Returns how many. */
 static size_t put(uint8_t *to, const char *text)
@@ -197,6 +200,8 @@ static void layouts(void)
     FIELD(depot_wal_report, 2, error);
     FIELD(depot_wal_report, 3, error_at);
     CHECK(offsetof(struct depot_wal_report, rows) == 4 * 8);
+    FIELD(depot_wal_checkpointed, 0, next);
+    FIELD(depot_wal_checkpointed, 1, error_at);
     FIELD(depot_wal_indexed, 0, used);
     FIELD(depot_wal_indexed, 1, error_at);
     FIELD(depot_wal_row, 0, start);
@@ -2092,6 +2097,364 @@ static void replay_errors(void)
     CHECK(all(buffer, sizeof buffer, 0x5C));
 }
 
+/* ---- a checkpoint ---- */
+
+/* What the calls are lent lies between guards: the target, and two work buffers of a few bytes more
+ * than they need. */
+enum { GUARD = 16, WORK = DEPOT_WAL_RECORD_MAX + 5 };
+static uint8_t targets[GUARD + 3 * PAGE + GUARD], works[2][GUARD + WORK + GUARD];
+static uint8_t *const target = targets + GUARD;
+static uint8_t wanted[3 * PAGE]; /* what should stand in the target */
+static size_t wanted_len;
+
+/* The log so far is what should come out; a new one is begun. */
+static void want_log(void)
+{
+    memcpy(wanted, segment, log_len);
+    wanted_len = log_len;
+    new_log();
+}
+
+/* A log in version 2 instead of 1; records of one fragment. */
+static size_t as_version_2(uint8_t *bytes, size_t len)
+{
+    struct depot_wal_good good = {0, 0};
+    struct depot_wal_record r;
+    while (depot_wal_read(V1, bytes, len, good.offset, buffer, sizeof buffer, &good, &r) == DONE) {
+        memcpy(record, buffer, r.length);
+        CHECK(depot_wal_write(V2, bytes, sizeof segment, r.start, record, r.length,
+                              &out->written) == DONE);
+    }
+    return good.offset;
+}
+
+static void lend(void)
+{
+    memset(targets, 0xC3, sizeof targets);
+    memset(works, 0x5C, sizeof works);
+}
+
+static depot_wal_status checkpoint(uint32_t version, const uint64_t *ids, size_t n, int64_t time,
+                                   size_t len)
+{
+    return depot_wal_checkpoint(version, segment, log_len, ids, n, time, target, len,
+                                works[0] + GUARD, WORK, works[1] + GUARD, WORK,
+                                &out->checkpointed);
+}
+
+/* Both work buffers are zero, or as they were, and nothing around them changes. */
+static int works_are(uint8_t value)
+{
+    int good = 1;
+    for (int i = 0; i < 2; i++)
+        good = good && all(works[i], GUARD, 0x5C) && all(works[i] + GUARD, WORK, value) &&
+               all(works[i] + GUARD + WORK, GUARD, 0x5C);
+    return good;
+}
+
+/* The target has the first n bytes of `wanted`, and everything behind them is unchanged. */
+static int target_has(size_t n)
+{
+    return all(targets, GUARD, 0xC3) && memcmp(target, wanted, n) == 0 &&
+           all(target + n, sizeof targets - GUARD - n, 0xC3);
+}
+
+/* Checkpoints the log into a target of `len` bytes. What should come out stands before `next`. */
+static void checkpoints(int line, uint32_t version, const uint64_t *ids, size_t n, int64_t time,
+                        size_t len, depot_wal_status status, uint64_t next, uint64_t at)
+{
+    static uint8_t before[sizeof segment];
+    memcpy(before, segment, sizeof segment);
+    lend();
+    check(line, GIVES(checkpoint(version, ids, n, time, len), status,
+                      CHECKPOINTED(.next = next, .error_at = at)),
+          "checkpoint");
+    check(line, target_has(next), "what is kept stands in the target, and nothing else");
+    check(line, works_are(0), "both work buffers are zero");
+    check(line, memcmp(segment, before, sizeof segment) == 0, "the source is only read");
+}
+
+static const uint64_t kept_ids[] = {9, 7, 9}; /* in any order, and twice */
+static const uint64_t pair_of_lengths[] = {1, 2};
+
+/* Entries of every type that are kept, in `kept_ids` at or after 100. */
+static void log_kept(void)
+{
+    LOG(1, {.id = 7, .strings = "abb", .lengths = pair_of_lengths, .count = 2}, {.id = 9});
+    LOG(2, {.id = 9, .time = 100, .bits = ONE}, {.id = 7, .time = INT64_MAX, .bits = TOP},
+        {.id = 9, .time = 101});
+    LOG(3, {.id = 7, .time = 200, .max = 100}, {.id = 9, .time = INT64_MIN, .max = INT64_MAX});
+    LOG(4, {.id = 7, .time = 100, .bits = 3, .strings = "cdd", .lengths = pair_of_lengths,
+            .count = 2},
+        {.id = 7, .time = 105});
+    LOG(6, {.id = 9, .bits = 2, .strings = "eff", .lengths = pair_of_lengths, .count = 2});
+    LOG(7, {.id = 9, .time = 100}, {.id = 7, .time = 300});
+    LOG(8, {.id = 7, .time = 100}, {.id = 9, .time = 102});
+}
+
+/* The same among entries that are not kept, and records of which nothing is. */
+static void log_more(void)
+{
+    uint8_t bytes[16];
+    LOG(1, {.id = 8}, {.id = 7, .strings = "abb", .lengths = pair_of_lengths, .count = 2},
+        {.id = 9}, {.id = 10, .strings = "xyy", .lengths = pair_of_lengths, .count = 2});
+    LOG(1, {.id = 8});
+    log_bytes(bytes, put(bytes, "05 07")); /* an unknown type */
+    LOG(2, {.id = 7, .time = 99}, {.id = 9, .time = 100, .bits = ONE}, {.id = 8, .time = 100},
+        {.id = 7, .time = INT64_MAX, .bits = TOP}, {.id = 7, .time = INT64_MIN},
+        {.id = 9, .time = 101});
+    LOG(2, {.id = 7, .time = 99}, {.id = 8, .time = 100}, {.id = TOP, .time = 100});
+    LOG(3, {.id = 7, .time = 200, .max = 100}, {.id = 8, .time = 0, .max = INT64_MAX},
+        {.id = 7, .time = 0, .max = 99}, {.id = 9, .time = INT64_MIN, .max = INT64_MAX});
+    log_bytes(bytes, put(bytes, "02")); /* without entries */
+    LOG(4, {.id = 8, .time = 100, .strings = "xyy", .lengths = pair_of_lengths, .count = 2},
+        {.id = 7, .time = 100, .bits = 3, .strings = "cdd", .lengths = pair_of_lengths, .count = 2},
+        {.id = 7, .time = 99}, {.id = 7, .time = 105});
+    LOG(6, {.id = 8}, {.id = 9, .bits = 2, .strings = "eff", .lengths = pair_of_lengths,
+                       .count = 2});
+    LOG(7, {.id = 9, .time = -100}, {.id = 9, .time = 100}, {.id = 8, .time = 100},
+        {.id = 7, .time = 300});
+    LOG(8, {.id = 7, .time = 100}, {.id = 8, .time = 100}, {.id = 9, .time = 102});
+    LOG(8, {.id = 8, .time = 100});
+}
+
+/* Every type, in both versions; then a checkpoint of the checkpoint, and one that keeps nothing. */
+static void checkpoint_types(void)
+{
+    static const uint64_t ascending[] = {0, 7, 9, 9, TOP - 1}, others[] = {0, 6, 11, TOP - 1};
+    for (uint32_t version = V1; version <= V2; version++) {
+        new_log();
+        log_kept();
+        want_log();
+        log_more();
+        if (version == V2) {
+            wanted_len = as_version_2(wanted, wanted_len);
+            log_len = as_version_2(segment, log_len);
+        }
+        for (size_t pages = 1; pages <= 3; pages++) {
+            checkpoints(__LINE__, version, kept_ids, 3, 100, pages * PAGE, DONE, wanted_len, 0);
+            checkpoints(__LINE__, version, ascending, 5, 100, pages * PAGE, DONE, wanted_len, 0);
+        }
+        checkpoints(__LINE__, version, others, 4, INT64_MIN, PAGE, DONE, 0, 0);
+        checkpoints(__LINE__, version, NULL, 0, INT64_MIN, PAGE, DONE, 0, 0);
+        checkpoints(__LINE__, version == V1 ? V2 : V1, kept_ids, 3, 100, PAGE, DEPOT_WAL_BAD_SUM,
+                    0, 0);
+        memcpy(segment, wanted, wanted_len);
+        log_len = wanted_len;
+        checkpoints(__LINE__, version, kept_ids, 3, 100, PAGE, DONE, wanted_len, 0);
+        checkpoints(__LINE__, version, kept_ids, 3, INT64_MIN, PAGE, DONE, wanted_len, 0);
+        log_len = 0;
+        checkpoints(__LINE__, version, kept_ids, 3, 100, PAGE, DONE, 0, 0);
+    }
+}
+
+/* Rebuilt: the first id and time are those of the first kept row; varints are as short as can be. */
+static void checkpoint_rebuilds(void)
+{
+    uint8_t bytes[64];
+    new_log();
+    LOG(2, {.id = 7, .time = 100, .bits = ONE}, {.id = 9, .time = 101, .bits = 1});
+    LOG(1, {.id = 9, .strings = "abb", .lengths = pair_of_lengths, .count = 2});
+    want_log();
+    /* id 5 and time 90 in front, the rows 7 and 9 at 100 and 101; a delta of two bytes for 2 */
+    log_bytes(bytes, put(bytes, "02 0000000000000005 000000000000005A 8400 14 3FF0000000000000"
+                                "08 16 0000000000000001"));
+    /* lengths in two and three bytes */
+    log_bytes(bytes, put(bytes, "01 0000000000000009 8100 8100 61 828000 6262"));
+    checkpoints(__LINE__, V1, kept_ids, 3, 0, PAGE, DONE, wanted_len, 0);
+}
+
+/* The longest series of the tests: n bytes as a body. */
+static size_t log_long(uint64_t id, size_t n)
+{
+    static char text[DEPOT_WAL_RECORD_MAX];
+    uint64_t lengths[] = {1, n - 15}; /* tag, id, count, length and byte, length in three bytes */
+    memset(text, 'x', n - 14);
+    text[n - 14] = 0;
+    return LOG(1, {.id = id, .strings = text, .lengths = lengths, .count = 2});
+}
+
+/* NO_ROOM at the first, second and third record that is kept: those before it stand. */
+static void checkpoint_no_room(void)
+{
+    size_t at[4];
+    new_log();
+    log_long(7, 20000);
+    log_long(9, 20000);
+    log_long(7, 40000);
+    want_log();
+    at[0] = log_long(8, 18000); /* not kept */
+    at[1] = log_long(7, 20000);
+    checkpoints(__LINE__, V1, kept_ids, 3, 0, PAGE, DONE, 20007, 0);
+    at[2] = log_long(9, 20000);
+    checkpoints(__LINE__, V1, kept_ids, 3, 0, PAGE, DEPOT_WAL_NO_ROOM, 20007, at[2]);
+    checkpoints(__LINE__, V1, kept_ids, 3, 0, 2 * PAGE, DONE, 40021, 0);
+    new_log();
+    log_long(7, 20000);
+    log_long(9, 20000);
+    at[3] = log_long(7, 40000);
+    checkpoints(__LINE__, V1, kept_ids, 3, 0, PAGE, DEPOT_WAL_NO_ROOM, 20007, 20007);
+    checkpoints(__LINE__, V1, kept_ids, 3, 0, 2 * PAGE, DEPOT_WAL_NO_ROOM, 40021, at[3]);
+    checkpoints(__LINE__, V1, kept_ids, 3, 0, 3 * PAGE, DONE, wanted_len, 0);
+    checkpoints(__LINE__, V1, kept_ids + 1, 1, 0, PAGE, DEPOT_WAL_NO_ROOM, 20007, at[3]);
+
+    /* A full page, and one with 6 bytes left, which are filled with zeros. */
+    for (size_t n = 32755; n <= 32761; n += 6) {
+        new_log();
+        log_long(7, n);
+        want_log();
+        log_long(7, n);
+        size_t second = LOG(1, {.id = 7});
+        checkpoints(__LINE__, V1, kept_ids, 3, 0, PAGE, DEPOT_WAL_NO_ROOM, PAGE, second);
+    }
+    /* At the first record. */
+    new_log();
+    log_long(7, 40000);
+    checkpoints(__LINE__, V1, kept_ids, 3, 0, PAGE, DEPOT_WAL_NO_ROOM, 0, 0);
+}
+
+/* Without its first row this record is nearly twice as long: the ids are then far from the first. */
+static size_t log_growing(size_t rows)
+{
+    size_t used = 1;
+    start(__LINE__, 2);
+    for (size_t i = 0; i < rows; i++) {
+        struct entry e = {.id = i == 0 ? 8 : i == 1 ? 9 : 7};
+        e.id += i == 1 ? UINT64_C(1) << 62 : 0;
+        CHECK(add(2, sizeof body, 2, used, &e) == DONE);
+        used = out->built.used;
+    }
+    return log_bytes(body, used);
+}
+
+/* TOO_LONG: above 65,536 bytes; before NO_ROOM of the same record, after that of one before it. */
+static void checkpoint_too_long(void)
+{
+    static const uint64_t far[] = {7, (UINT64_C(1) << 62) + 9};
+    new_log();
+    LOG(1, {.id = 7});
+    want_log();
+    LOG(1, {.id = 7});
+    size_t at = log_growing(5000);
+    checkpoints(__LINE__, V1, far, 2, 0, PAGE, DEPOT_WAL_TOO_LONG, wanted_len, at);
+    checkpoints(__LINE__, V1, far, 2, 0, 3 * PAGE, DEPOT_WAL_TOO_LONG, wanted_len, at);
+    LOG(2, {.id = 8});
+    checkpoints(__LINE__, V1, far, 2, 0, PAGE, DEPOT_WAL_TOO_LONG, wanted_len, at);
+
+    /* 3,447 rows behind the first that is kept: 17 bytes in front, 10 of that row, and 19 of each
+     * other, whose id has a delta of 10 bytes. That is 65,520, and one row more is too long. The two
+     * fragments leave 2 bytes of a page. */
+    new_log();
+    at = log_growing(3449);
+    checkpoints(__LINE__, V1, far, 2, 0, PAGE, DEPOT_WAL_NO_ROOM, 0, at);
+    lend();
+    CHECK(GIVES(checkpoint(V1, far, 2, 0, 2 * PAGE), DONE, CHECKPOINTED(.next = 2 * PAGE)));
+    CHECK(same(target, 3, "02 7F F9") && same(target + PAGE, 3, "04 7F F7"));
+    CHECK(same(target + 2 * PAGE - 2, 4, "00 00 C3 C3") && works_are(0));
+    new_log();
+    at = log_growing(3450);
+    checkpoints(__LINE__, V1, far, 2, 0, 2 * PAGE, DEPOT_WAL_TOO_LONG, 0, at);
+
+    /* NO_ROOM at the second record comes before TOO_LONG at the fourth. */
+    new_log();
+    log_long(7, 20000);
+    want_log();
+    log_long(7, 20000);
+    at = log_long(7, 20000);
+    log_growing(3450);
+    checkpoints(__LINE__, V1, far, 2, 0, PAGE, DEPOT_WAL_NO_ROOM, 20007, at);
+}
+
+/* A source that is refused, torn, or holds a refused body: the first of these, and nothing is
+ * written. */
+static void checkpoint_refuses(void)
+{
+    static const struct {
+        const char *body;
+        depot_wal_status status;
+    } faults[] = {{"01 0000000000000009 00  00", DEPOT_WAL_SHORT},
+                  {"06 FFFFFFFFFFFFFFFFFF02", DEPOT_WAL_BAD_VARINT},
+                  {"02 00", DEPOT_WAL_SHORT}};
+    uint8_t bytes[64];
+    for (size_t i = 0; i < sizeof faults / sizeof *faults; i++) {
+        new_log();
+        log_kept();
+        size_t at = log_bytes(bytes, put(bytes, faults[i].body));
+        checkpoints(__LINE__, V1, kept_ids, 3, 100, PAGE, faults[i].status, 0, at);
+        checkpoints(__LINE__, V1, NULL, 0, 100, PAGE, faults[i].status, 0, at);
+        log_bytes(bytes, put(bytes, faults[1 - i % 2].body)); /* the first along the source counts */
+        log_len--;
+        checkpoints(__LINE__, V1, kept_ids, 3, 100, PAGE, faults[i].status, 0, at);
+    }
+    new_log();
+    log_kept();
+    size_t at = LOG(1, {.id = 8});
+    for (size_t cut = at + 1; cut < log_len; cut++) {
+        size_t len = log_len;
+        log_len = cut;
+        checkpoints(__LINE__, V1, kept_ids, 3, 100, PAGE, DEPOT_WAL_TORN, 0, at);
+        log_len = len;
+    }
+    segment[log_len - 1] ^= 1;
+    checkpoints(__LINE__, V1, kept_ids, 3, 100, PAGE, DEPOT_WAL_BAD_SUM, 0, at);
+    put(segment + at, "01 00 00");
+    checkpoints(__LINE__, V1, kept_ids, 3, 100, PAGE, DEPOT_WAL_HOLLOW, 0, at);
+}
+
+/* Lengths of the work buffers: the call, what becomes of them, and that the target is unchanged. */
+static void checkpoint_work(uint32_t version, size_t work_len, size_t body_len,
+                            depot_wal_status status)
+{
+    uint8_t *work = works[0] + GUARD, *made = works[1] + GUARD;
+    int full = work_len >= DEPOT_WAL_RECORD_MAX && body_len >= DEPOT_WAL_RECORD_MAX;
+    uint8_t value = full ? 0 : 0x5C;
+    lend();
+    CHECK(GIVES(depot_wal_checkpoint(version, segment, log_len, kept_ids, 3, 100, target, PAGE,
+                                     work_len ? work : NULL, work_len, body_len ? made : NULL,
+                                     body_len, &out->checkpointed),
+                status, CHECKPOINTED(.next = status == DONE ? wanted_len : 0)));
+    CHECK(target_has(status == DONE ? wanted_len : 0));
+    CHECK(all(work, work_len, value) && all(work + work_len, WORK + GUARD - work_len, 0x5C));
+    CHECK(all(made, body_len, value) && all(made + body_len, WORK + GUARD - body_len, 0x5C));
+    CHECK(all(works[0], GUARD, 0x5C) && all(works[1], GUARD, 0x5C));
+}
+
+static void checkpoint_lengths(void)
+{
+    static const size_t lengths[] = {0, 1, 65535, 65536, 65537, WORK};
+    static const size_t bad[] = {0, 1, PAGE - 1, PAGE + 1, 3 * PAGE - 1};
+    new_log();
+    log_kept();
+    want_log();
+    log_more();
+    for (size_t i = 0; i < sizeof lengths / sizeof *lengths; i++) {
+        for (size_t k = 0; k < sizeof lengths / sizeof *lengths; k++) {
+            int full = lengths[i] >= 65536 && lengths[k] >= 65536;
+            checkpoint_work(V1, lengths[i], lengths[k], full ? DONE : DEPOT_WAL_BAD_BUFFER);
+            checkpoint_work(V2, lengths[i], lengths[k],
+                            full ? DEPOT_WAL_BAD_SUM : DEPOT_WAL_BAD_BUFFER);
+            checkpoint_work(0, lengths[i], lengths[k], DEPOT_WAL_BAD_NAME);
+            checkpoint_work(3, lengths[i], lengths[k], DEPOT_WAL_BAD_NAME);
+        }
+    }
+    for (size_t i = 0; i < sizeof bad / sizeof *bad; i++) {
+        checkpoints(__LINE__, V1, kept_ids, 3, 100, bad[i], DEPOT_WAL_BAD_BUFFER, 0, 0);
+        checkpoints(__LINE__, UINT32_MAX, kept_ids, 3, 100, bad[i], DEPOT_WAL_BAD_NAME, 0, 0);
+    }
+    lend();
+    CHECK(GIVES(depot_wal_checkpoint(V1, segment, log_len, kept_ids, 3, 100, huge, LIMIT + PAGE,
+                                     works[0] + GUARD, WORK, works[1] + GUARD, WORK,
+                                     &out->checkpointed),
+                DEPOT_WAL_BAD_BUFFER, CHECKPOINTED(.next = 0)));
+    CHECK(works_are(0));
+    lend();
+    CHECK(GIVES(depot_wal_checkpoint(V1, huge, LIMIT + 1, kept_ids, 3, 100, target, PAGE,
+                                     works[0] + GUARD, WORK, works[1] + GUARD, WORK,
+                                     &out->checkpointed),
+                DEPOT_WAL_BAD_BUFFER, CHECKPOINTED(.next = 0)));
+    CHECK(works_are(0) && target_has(0));
+}
+
 /* ---- the index ---- */
 
 static uint8_t index_file[64];
@@ -2620,6 +2983,12 @@ int main(int argc, char **argv)
     replayed_limit();
     replayed_unknown();
     replay_errors();
+    checkpoint_types();
+    checkpoint_rebuilds();
+    checkpoint_no_room();
+    checkpoint_too_long();
+    checkpoint_refuses();
+    checkpoint_lengths();
     index_built();
     index_damaged();
     index_looked_up();

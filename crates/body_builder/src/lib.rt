@@ -2,6 +2,7 @@
 // the buffer afterwards, are those of body_format's definitions (FORMAT 10).
 pub mod admission;
 mod builder;
+pub mod rows;
 mod strings;
 
 use admission::Gate;

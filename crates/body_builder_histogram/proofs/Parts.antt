@@ -1,11 +1,14 @@
 -- The parts of a histogram in a row: the room that each needs, all of them written, and their sizes.
-use mathlib.Core.Path.{_≡_}
+use mathlib.Core.Path.{_≡_, sym, _∙_}
 use mathlib.Core.List.{List, _++_}
 use Prim.Native.Nat.{ℕ, _+_, _≤_}
 use native.Mathlib.Omega.{arith}
 use lib.ListN.{length, length-append}
+use Rattle.byte_copy.specs.Put.{putAt, putEnd}
+use Rattle.byte_copy.specs.PutLaws.{put-fits, end-fits}
 use Rattle.wal_types.specs.Deltas.{toBits}
 use Rattle.body_format.specs.declared.BucketKind.{BucketKind}
+use Rattle.body_format.specs.declared.Numbers.{Numbers}
 use Rattle.body_format.specs.declared.Element.{Element}
 use Rattle.body_format.specs.declared.Element.the-variants as element
 use Rattle.body_format.specs.Heads.{headBytes}
@@ -13,6 +16,7 @@ use Rattle.body_format.specs.Histograms.{Span, Item, listBytes, Sides, sidesByt
 use Rattle.body_format.specs.Laws.Histograms.{length-sides, length-lists, length-histogram}
 use Rattle.body_builder.specs.Laws.Putting.{Put, room-then, put-then}
 use Rattle.body_builder.specs.Laws.Additions.{Sized, exact, both-sized}
+use Rattle.body_builder_histogram.specs.Front.{frontBytes}
 
 -- the lists of both sides
 module _ (x : Element) (l : Sides (List (Item x))) where
@@ -84,3 +88,26 @@ module _ (b : List ℕ) (u : ℕ) (k : BucketKind) (h : Histogram (List Span) (L
         histogram-laid d₃ r t =
             put-then b d₁ u p head (numbersBytes k (h .numbers) ++ listsBytes k (h .lists)) room d₃ r w
             (put-then d₁ d₂ p q (numbersBytes k (h .numbers)) (listsBytes k (h .lists)) both-room d₃ r v t)
+
+-- ---- the front: the head and the numbers
+
+pub length-front : (b : List ℕ) (u : ℕ) (k : BucketKind) (id time : ℕ) (n : Numbers)
+    → length (frontBytes b u k id time n) ≡ length (headBytes b u id time) + length (numbersBytes k n)
+unfolding frontBytes
+length-front b u k id time n = length-append (headBytes b u id time) (numbersBytes k n)
+
+module _ (b : List ℕ) (u : ℕ) (k : BucketKind) (id time : ℕ) (n : Numbers) (room : u + length (frontBytes b u k id time n) ≤ length b) where
+  pub front-head-room : u + length (headBytes b u id time) ≤ length b
+  front-head-room = omega (arith, room, length-front b u k id time n)
+
+  module _ (d₁ : List ℕ) (p : ℕ) (w : Put b u (headBytes b u id time) d₁ p) where
+    pub front-numbers-room : p + length (numbersBytes k n) ≤ length d₁
+    unfolding frontBytes
+    front-numbers-room = room-then b d₁ u p (headBytes b u id time) (numbersBytes k n) room w
+
+    pub front-laid : (d₂ : List ℕ) (q : ℕ) → Put d₁ p (numbersBytes k n) d₂ q
+        → (q ≡ putEnd b u (frontBytes b u k id time n)) × (d₂ ≡ putAt b u (frontBytes b u k id time n))
+    unfolding frontBytes
+    front-laid d₂ q v =
+        let both = put-then b d₁ u p (headBytes b u id time) (numbersBytes k n) room d₂ q w v in
+        (both .0 ∙ sym (end-fits b u _ room), both .1 ∙ sym (put-fits b u _ room))

@@ -13,7 +13,7 @@ ghost use Rattle.body_builder.specs.Laws.Additions.{Sized};
 ghost use Rattle.body_builder_histogram.specs.Lent.{sides};
 
 // The bytes of a bucket: a signed varint in type 7, a float in type 8.
-fn bucket_size(kind: BucketKind, bits: u64) -> usize
+pub fn bucket_size(kind: BucketKind, bits: u64) -> usize
     ensures { λ r. ⌜ (r ≡ length (bucketBytes kind bits)) × (r ≤ 10) ⌝ }
 {
     match kind {
@@ -23,7 +23,7 @@ fn bucket_size(kind: BucketKind, bits: u64) -> usize
 }
 
 // A bucket at a place of the buffer; the place after it.
-fn put_bucket(buffer: &mut [u8], kind: BucketKind, at: usize, bits: u64) -> usize
+pub fn put_bucket(buffer: &mut [u8], kind: BucketKind, at: usize, bits: u64) -> usize
     ensures { λ r. ⌜ r ≡ putEnd (now (buffer .entry)) at (bucketBytes kind bits) ⌝ }
     ensures { λ _. ⌜ now (buffer .exit) ≡ putAt (now (buffer .entry)) at (bucketBytes kind bits) ⌝ }
 {

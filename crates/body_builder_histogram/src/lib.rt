@@ -1,11 +1,12 @@
 // Adding a histogram, of type 7 or 8, to a body that is being built in a caller-owned buffer. The
 // answer, and every byte of the buffer afterwards, are those of body_format's definitions (FORMAT
 // 10). What the two types share is written once, with the bucket kind as an argument.
-mod buckets;
+pub mod buckets;
+pub mod front;
 mod heads;
 mod lists;
 mod numbers;
-mod spans;
+pub mod spans;
 
 use body_builder::Added;
 use body_builder::Body;

@@ -6,6 +6,7 @@ ghost use mathlib.Core.Bool.{_||_};
 ghost use Prim.Native.Nat.{_+_, _*_, _≤_};
 ghost use lib.ListN.{length};
 ghost use lib.Seq.{sets};
+ghost use Rattle.byte_copy.specs.Put.{putAt, putEnd};
 ghost use Rattle.body_format.specs.declared.Element.the-variants.{Span as «TheSpan»};
 ghost use Rattle.body_format.specs.Histograms.{spanBytes, joinSpans, itemsBytes, listBytes, sidesBytes, badSpans};
 ghost use Rattle.body_builder.specs.Laws.Additions.{Sized};
@@ -19,7 +20,7 @@ pub(crate) fn spans_are_bad(offsets: &[i32], lengths: &[u32]) -> bool
 }
 
 // The bytes of a span.
-fn span_size(offset: i32, size: u32) -> usize
+pub fn span_size(offset: i32, size: u32) -> usize
     ensures { λ r. ⌜ (r ≡ length (spanBytes (spanOf offset size))) × (r ≤ 20) ⌝ }
 {
     let first = varint::varint_len(wide(offset));
@@ -35,6 +36,21 @@ fn put_span(buffer: &mut [u8], at: usize, offset: i32, size: u32) -> usize
 {
     let second = varint::put_varint(buffer, at, wide(offset));
     uvarint::put_uvarint(buffer, second, size as u64)
+}
+
+// A span at a place of the buffer; the place after it. Where it does not fit, nothing changes.
+pub fn put_span_at(buffer: &mut [u8], at: usize, offset: i32, size: u32) -> usize
+    ensures { λ r. ⌜ r ≡ putEnd (now (buffer .entry)) at (spanBytes (spanOf offset size)) ⌝ }
+    ensures { λ _. ⌜ now (buffer .exit) ≡ putAt (now (buffer .entry)) at (spanBytes (spanOf offset size)) ⌝ }
+{
+    let bytes = span_size(offset, size);
+    if buffer.len() < at {
+        return at;
+    }
+    if buffer.len() - at < bytes {
+        return at;
+    }
+    put_span(buffer, at, offset, size)
 }
 
 // The bytes of the spans in a row.

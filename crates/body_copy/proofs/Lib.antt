@@ -1,0 +1,3 @@
+mod Measuring
+mod Copying
+mod Gating

@@ -1,0 +1,3 @@
+mod Elements
+mod Parts
+mod Found
