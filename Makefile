@@ -1,7 +1,8 @@
 # make demo      the main job, shown: switches written, the power cut in the middle of one, what comes back;
 #                then a checkpoint into the spare partition, with the power cut at every step
 # make test      everything that has to hold: rt ci, then the comparisons (tools/gate); .ci/run calls it
-# make bench     our speed beside the second program's and the SSE4.2 instruction's, in one run (about a minute)
+# make bench     our speed beside the second program's and the SSE4.2 instruction's, and that of the Rust crate's log
+#                beside the C call and a write, in one run (about a minute)
 # make valgrind  the C test and the listing on hostile inputs under valgrind (slow, not part of the test)
 # make interop   stock Prometheus reads what the archive writes; installs Debian's prometheus package
 #                where it is missing (not part of the test)

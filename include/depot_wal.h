@@ -589,7 +589,7 @@ depot_wal_status depot_wal_feed_read(uint64_t state[DEPOT_WAL_FEED_LEN], const u
 uint32_t depot_wal_crc32c(const uint8_t *data, size_t len);
 
 /* Fills the checksum's table (8,192 bytes), once, for the calls below. No errors; changes the
- * table. */
+ * table. flash/depot_wal_flash_table.h has it as a constant, which costs firmware no RAM. */
 void depot_wal_table(uint32_t table[DEPOT_WAL_TABLE_LEN]);
 
 /* The calls with a table do the same as those without, and are quicker on data, or fragments,

@@ -1,6 +1,6 @@
-//! The archive's C calls, and safe wrappers around them. A slice passes as pointer and length;
-//! every second empty slice passes as a null pointer. `out` is between guard words and is filled
-//! with a pattern before each call.
+//! The archive's C calls, as the Rust crate declares them, with guards around what they may write.
+//! A slice passes as pointer and length; every second empty slice passes as a null pointer. `out`
+//! is between guard words and is filled with a pattern before each call.
 
 pub mod bare;
 mod bodies;
@@ -15,18 +15,14 @@ pub mod resume;
 pub use bodies::{
     add, body_check, body_start, bucket_at, entry_at, histogram_at, span_at, string_at,
 };
+use depot_wal::sys::*;
+pub use depot_wal::sys::{END, TABLE_LEN};
 use std::sync::atomic::{AtomicBool, Ordering};
-
-/// Numbers in the checksum's table.
-pub const TABLE_LEN: usize = 2048;
 
 pub type Table = [u32; TABLE_LEN];
 
 /// The good length: the number of whole records, and the offset after the last.
 pub type Pair = [u64; 2];
-
-/// What a clean or plain end returns.
-pub const END: u32 = 200;
 
 const PATTERN: u64 = 0xA5A5_5A5A_C3C3_3C3C;
 
@@ -70,9 +66,9 @@ impl<const N: usize> Guarded<N> {
 }
 
 /// Makes the call with a guarded `out`.
-fn answer<const N: usize>(call: impl FnOnce(*mut u64) -> u32) -> Answer<N> {
+fn answer<const N: usize>(call: impl FnOnce(*mut [u64; N]) -> u32) -> Answer<N> {
     let mut lent = Guarded::new([PATTERN; N]);
-    let number = call(lent.out.as_mut_ptr());
+    let number = call(&mut lent.out);
     Answer {
         number,
         out: lent.out,
@@ -83,10 +79,10 @@ fn answer<const N: usize>(call: impl FnOnce(*mut u64) -> u32) -> Answer<N> {
 /// Makes the call with a guarded copy of the numbers, and takes over what it left there.
 fn lend<const N: usize, const M: usize>(
     numbers: &mut [u64; M],
-    call: impl FnOnce(*mut u64) -> Answer<N>,
+    call: impl FnOnce(*mut [u64; M]) -> Answer<N>,
 ) -> Answer<N> {
     let mut lent = Guarded::new(*numbers);
-    let mut answer = call(lent.out.as_mut_ptr());
+    let mut answer = call(&mut lent.out);
     answer.beside |= lent.beside();
     *numbers = lent.out;
     answer
@@ -117,25 +113,19 @@ fn pointer_mut<T>(slice: &mut [T]) -> *mut T {
 
 // ---- Checksums ----
 
-extern "C" {
-    fn depot_wal_crc32c(data: *const u8, len: usize) -> u32;
-    fn depot_wal_table(table: *mut u32);
-    fn depot_wal_crc32c_with_table(table: *const u32, data: *const u8, len: usize) -> u32;
-}
-
 pub fn crc32c(data: &[u8]) -> u32 {
     unsafe { depot_wal_crc32c(pointer(data), data.len()) }
 }
 
 pub fn crc32c_with_table(table: &Table, data: &[u8]) -> u32 {
-    unsafe { depot_wal_crc32c_with_table(table.as_ptr(), pointer(data), data.len()) }
+    unsafe { depot_wal_crc32c_with_table(table, pointer(data), data.len()) }
 }
 
 /// The archive's table; `None` if it wrote beside it.
 pub fn table() -> Option<Box<Table>> {
     const GUARD: usize = 16;
     let mut lent = [PATTERN as u32; GUARD + TABLE_LEN + GUARD];
-    unsafe { depot_wal_table(lent[GUARD..].as_mut_ptr()) };
+    unsafe { depot_wal_table(lent[GUARD..].as_mut_ptr().cast()) };
     let (before, rest) = lent.split_at(GUARD);
     let (inner, after) = rest.split_at(TABLE_LEN);
     let untouched = |guard: &[u32]| guard.iter().all(|&word| word == PATTERN as u32);
@@ -148,50 +138,6 @@ pub fn table() -> Option<Box<Table>> {
 }
 
 // ---- Segments ----
-
-extern "C" {
-    fn depot_wal_write(
-        version: u32,
-        segment: *mut u8,
-        segment_len: usize,
-        place: usize,
-        record: *const u8,
-        record_len: usize,
-        out: *mut u64,
-    ) -> u32;
-    fn depot_wal_read(
-        version: u32,
-        segment: *const u8,
-        segment_len: usize,
-        place: usize,
-        buffer: *mut u8,
-        buffer_len: usize,
-        good: *mut u64,
-        out: *mut u64,
-    ) -> u32;
-    fn depot_wal_write_with_table(
-        table: *const u32,
-        version: u32,
-        segment: *mut u8,
-        segment_len: usize,
-        place: usize,
-        record: *const u8,
-        record_len: usize,
-        out: *mut u64,
-    ) -> u32;
-    fn depot_wal_read_with_table(
-        table: *const u32,
-        version: u32,
-        segment: *const u8,
-        segment_len: usize,
-        place: usize,
-        buffer: *mut u8,
-        buffer_len: usize,
-        good: *mut u64,
-        out: *mut u64,
-    ) -> u32;
-    fn depot_wal_pages_for(records: u64, bytes: u64, out: *mut u64) -> u32;
-}
 
 pub fn pages_for(records: u64, bytes: u64) -> Answer<1> {
     answer(|out| unsafe { depot_wal_pages_for(records, bytes, out) })
@@ -233,7 +179,6 @@ pub fn write_with_table(
 ) -> Answer<2> {
     let (length, record_len) = (segment.len(), record.len());
     let (segment, record) = (pointer_mut(segment), pointer(record));
-    let table = table.as_ptr();
     answer(|out| unsafe {
         depot_wal_write_with_table(
             table, version, segment, length, place, record, record_len, out,
@@ -251,7 +196,6 @@ pub fn read_with_table(
 ) -> Answer<5> {
     let (length, buffer_len) = (segment.len(), buffer.len());
     let (segment, buffer) = (pointer(segment), pointer_mut(buffer));
-    let table = table.as_ptr();
     with_pair(good, |good| {
         answer(|out| unsafe {
             depot_wal_read_with_table(
@@ -262,7 +206,7 @@ pub fn read_with_table(
 }
 
 /// Makes the call with a guarded copy of the pair, and puts what it left there after `out`.
-fn with_pair(mut pair: Pair, call: impl FnOnce(*mut u64) -> Answer<3>) -> Answer<5> {
+fn with_pair(mut pair: Pair, call: impl FnOnce(*mut Pair) -> Answer<3>) -> Answer<5> {
     let Answer {
         number,
         out: [start, length, after],

@@ -1,13 +1,9 @@
 //! The calls as a C program makes them, for timing: `out` is the caller's, without guards, and no
 //! pointer is null.
 
-use super::bodies::{
-    depot_wal_add_sample, depot_wal_body_check, depot_wal_body_start, depot_wal_entry_at,
-};
-use super::checkpoint::{depot_wal_checkpoint, Lent};
-use super::feed::{depot_wal_feed_page, depot_wal_feed_read, depot_wal_feed_start, State as Feed};
-use super::index::depot_wal_index_build;
-use super::replay::{depot_wal_replay, SeriesTable, OUT_LEN as REPLAY_OUT};
+use super::checkpoint::Lent;
+use super::feed::State as Feed;
+use super::replay::{SeriesTable, OUT_LEN as REPLAY_OUT};
 use super::*;
 use reference::body::{Sample, State};
 
@@ -20,7 +16,7 @@ pub fn crc32c(data: &[u8]) -> u32 {
 
 #[inline]
 pub fn crc32c_with_table(table: &Table, data: &[u8]) -> u32 {
-    unsafe { depot_wal_crc32c_with_table(table.as_ptr(), data.as_ptr(), data.len()) }
+    unsafe { depot_wal_crc32c_with_table(table, data.as_ptr(), data.len()) }
 }
 
 // ---- Segments ----
@@ -35,17 +31,7 @@ pub fn write(
 ) -> u32 {
     let (length, bytes) = (segment.len(), segment.as_mut_ptr());
     let (data, data_len) = (record.as_ptr(), record.len());
-    unsafe {
-        depot_wal_write(
-            version,
-            bytes,
-            length,
-            place,
-            data,
-            data_len,
-            out.as_mut_ptr(),
-        )
-    }
+    unsafe { depot_wal_write(version, bytes, length, place, data, data_len, out) }
 }
 
 #[inline]
@@ -59,7 +45,6 @@ pub fn read(
 ) -> u32 {
     let (length, bytes) = (segment.len(), segment.as_ptr());
     let (room, room_len) = (buffer.as_mut_ptr(), buffer.len());
-    let (good, out) = (good.as_mut_ptr(), out.as_mut_ptr());
     unsafe { depot_wal_read(version, bytes, length, place, room, room_len, good, out) }
 }
 
@@ -74,7 +59,6 @@ pub fn write_with_table(
 ) -> u32 {
     let (length, bytes) = (segment.len(), segment.as_mut_ptr());
     let (data, data_len) = (record.as_ptr(), record.len());
-    let (table, out) = (table.as_ptr(), out.as_mut_ptr());
     unsafe { depot_wal_write_with_table(table, version, bytes, length, place, data, data_len, out) }
 }
 
@@ -90,7 +74,6 @@ pub fn read_with_table(
 ) -> u32 {
     let (length, bytes) = (segment.len(), segment.as_ptr());
     let (room, room_len) = (buffer.as_mut_ptr(), buffer.len());
-    let (table, good, out) = (table.as_ptr(), good.as_mut_ptr(), out.as_mut_ptr());
     unsafe {
         depot_wal_read_with_table(
             table, version, bytes, length, place, room, room_len, good, out,
@@ -102,12 +85,11 @@ pub fn read_with_table(
 
 #[inline]
 pub fn feed_start(state: &mut Feed, version: u32) -> u32 {
-    unsafe { depot_wal_feed_start(state.as_mut_ptr(), version) }
+    unsafe { depot_wal_feed_start(state, version) }
 }
 
 #[inline]
 pub fn feed_page(state: &mut Feed, page: &[u8], out: &mut [u64; 3]) -> u32 {
-    let (state, out) = (state.as_mut_ptr(), out.as_mut_ptr());
     unsafe { depot_wal_feed_page(state, page.as_ptr(), page.len(), out) }
 }
 
@@ -115,7 +97,6 @@ pub fn feed_page(state: &mut Feed, page: &[u8], out: &mut [u64; 3]) -> u32 {
 pub fn feed_read(state: &mut Feed, page: &[u8], buffer: &mut [u8], out: &mut [u64; 5]) -> u32 {
     let (length, bytes) = (page.len(), page.as_ptr());
     let (room, room_len) = (buffer.as_mut_ptr(), buffer.len());
-    let (state, out) = (state.as_mut_ptr(), out.as_mut_ptr());
     unsafe { depot_wal_feed_read(state, bytes, length, room, room_len, out) }
 }
 
@@ -131,7 +112,6 @@ pub fn replay(
 ) -> u32 {
     let (length, bytes) = (segment.len(), segment.as_ptr());
     let (room, room_len) = (buffer.as_mut_ptr(), buffer.len());
-    let (table, out) = (table.as_mut_ptr(), out.as_mut_ptr());
     unsafe { depot_wal_replay(version, bytes, length, room, room_len, table, out) }
 }
 
@@ -155,7 +135,7 @@ pub fn checkpoint(version: u32, ids: &[u64], time: i64, lent: Lent, out: &mut [u
             work.len(),
             body.as_mut_ptr(),
             body.len(),
-            out.as_mut_ptr(),
+            out,
         )
     }
 }
@@ -166,30 +146,30 @@ pub fn checkpoint(version: u32, ids: &[u64], time: i64, lent: Lent, out: &mut [u
 pub fn index_build(version: u32, segment: &[u8], index: &mut [u8], out: &mut [u64; 2]) -> u32 {
     let (length, bytes) = (segment.len(), segment.as_ptr());
     let (room, room_len) = (index.as_mut_ptr(), index.len());
-    unsafe { depot_wal_index_build(version, bytes, length, room, room_len, out.as_mut_ptr()) }
+    unsafe { depot_wal_index_build(version, bytes, length, room, room_len, out) }
 }
 
 // ---- Bodies ----
 
 #[inline]
 pub fn body_start(buffer: &mut [u8], kind: u8, out: &mut [u64; 2]) -> u32 {
-    unsafe { depot_wal_body_start(buffer.as_mut_ptr(), buffer.len(), kind, out.as_mut_ptr()) }
+    unsafe { depot_wal_body_start(buffer.as_mut_ptr(), buffer.len(), kind, out) }
 }
 
 #[inline]
 pub fn add_sample(buffer: &mut [u8], state: State, row: &Sample, out: &mut [u64; 2]) -> u32 {
     let State { kind, used } = state;
     let (length, bytes) = (buffer.len(), buffer.as_mut_ptr());
-    let (id, time, out) = (row.id.0, row.time.0, out.as_mut_ptr());
+    let (id, time) = (row.id.0, row.time.0);
     unsafe { depot_wal_add_sample(bytes, length, kind, used, id, time, row.bits, out) }
 }
 
 #[inline]
 pub fn body_check(body: &[u8], out: &mut [u64; 1]) -> u32 {
-    unsafe { depot_wal_body_check(body.as_ptr(), body.len(), out.as_mut_ptr()) }
+    unsafe { depot_wal_body_check(body.as_ptr(), body.len(), out) }
 }
 
 #[inline]
 pub fn entry_at(body: &[u8], place: usize, out: &mut [u64; 8]) -> u32 {
-    unsafe { depot_wal_entry_at(body.as_ptr(), body.len(), place, out.as_mut_ptr()) }
+    unsafe { depot_wal_entry_at(body.as_ptr(), body.len(), place, out) }
 }

@@ -2,24 +2,6 @@
 
 use super::*;
 
-extern "C" {
-    pub(super) fn depot_wal_checkpoint(
-        version: u32,
-        source: *const u8,
-        source_len: usize,
-        ids: *const u64,
-        ids_len: usize,
-        time: i64,
-        target: *mut u8,
-        target_len: usize,
-        work: *mut u8,
-        work_len: usize,
-        body: *mut u8,
-        body_len: usize,
-        out: *mut u64,
-    ) -> u32;
-}
-
 /// What is lent to a checkpoint.
 pub struct Lent<'a> {
     pub source: &'a [u8],

@@ -2,31 +2,9 @@
 
 use super::*;
 
-/// Numbers in a state.
-pub const STATE_LEN: usize = 16;
+pub use depot_wal::sys::{FEED_LEN as STATE_LEN, MORE};
 
 pub type State = [u64; STATE_LEN];
-
-/// What a read returns that asks for the next page.
-pub const MORE: u32 = 201;
-
-extern "C" {
-    pub(super) fn depot_wal_feed_start(state: *mut u64, version: u32) -> u32;
-    pub(super) fn depot_wal_feed_page(
-        state: *mut u64,
-        page: *const u8,
-        page_len: usize,
-        out: *mut u64,
-    ) -> u32;
-    pub(super) fn depot_wal_feed_read(
-        state: *mut u64,
-        page: *const u8,
-        page_len: usize,
-        buffer: *mut u8,
-        buffer_len: usize,
-        out: *mut u64,
-    ) -> u32;
-}
 
 /// The number, and a fresh state made in place of a pattern.
 pub fn start(version: u32) -> Answer<STATE_LEN> {

@@ -2,35 +2,6 @@
 
 use super::*;
 
-extern "C" {
-    pub(super) fn depot_wal_index_build(
-        version: u32,
-        segment: *const u8,
-        segment_len: usize,
-        index: *mut u8,
-        index_len: usize,
-        out: *mut u64,
-    ) -> u32;
-    fn depot_wal_index_check(
-        version: u32,
-        segment: *const u8,
-        segment_len: usize,
-        index: *const u8,
-        index_len: usize,
-        out: *mut u64,
-    ) -> u32;
-    fn depot_wal_index_extend(
-        version: u32,
-        segment: *const u8,
-        segment_len: usize,
-        index: *mut u8,
-        index_len: usize,
-        used: usize,
-        out: *mut u64,
-    ) -> u32;
-    fn depot_wal_index_at(index: *const u8, index_len: usize, record: u64, out: *mut u64) -> u32;
-}
-
 /// Bytes of the index.
 pub fn build(version: u32, segment: &[u8], index: &mut [u8]) -> Answer<2> {
     let (length, room) = (segment.len(), index.len());

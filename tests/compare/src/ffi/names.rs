@@ -2,17 +2,6 @@
 
 use super::*;
 
-extern "C" {
-    fn depot_wal_name_parse(name: *const u8, len: usize, out: *mut u64) -> u32;
-    fn depot_wal_name_make(
-        sequence: u64,
-        version: u64,
-        name: *mut u8,
-        len: usize,
-        out: *mut u64,
-    ) -> u32;
-}
-
 /// Sequence and version.
 pub fn parse(name: &[u8]) -> Answer<2> {
     let (length, name) = (name.len(), pointer(name));

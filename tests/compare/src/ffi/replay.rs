@@ -2,11 +2,8 @@
 
 use super::*;
 
-/// Numbers of a row: id, rows counted, latest time, value bits, 1 if deleted.
-pub const ROW_LEN: usize = 5;
-
-/// Numbers in the table of 256 series.
-pub const REPLAY_LEN: usize = 256 * ROW_LEN;
+/// A row is id, rows counted, latest time, value bits, 1 if deleted.
+pub use depot_wal::sys::{REPLAY_LEN, ROW_LEN};
 
 pub type SeriesTable = [u64; REPLAY_LEN];
 
@@ -15,28 +12,15 @@ pub type SeriesTable = [u64; REPLAY_LEN];
 pub const OUT_LEN: usize = 6;
 
 /// A replay: the version, the segment, the buffer, the table, `out`.
-type Call = unsafe extern "C" fn(u32, *const u8, usize, *mut u8, usize, *mut u64, *mut u64) -> u32;
-
-extern "C" {
-    pub(super) fn depot_wal_replay(
-        version: u32,
-        segment: *const u8,
-        segment_len: usize,
-        buffer: *mut u8,
-        buffer_len: usize,
-        table: *mut u64,
-        out: *mut u64,
-    ) -> u32;
-    fn depot_wal_replay_strict(
-        version: u32,
-        segment: *const u8,
-        segment_len: usize,
-        buffer: *mut u8,
-        buffer_len: usize,
-        table: *mut u64,
-        out: *mut u64,
-    ) -> u32;
-}
+type Call = unsafe extern "C" fn(
+    u32,
+    *const u8,
+    usize,
+    *mut u8,
+    usize,
+    *mut SeriesTable,
+    *mut [u64; OUT_LEN],
+) -> u32;
 
 pub fn replay(
     version: u32,

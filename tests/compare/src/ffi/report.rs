@@ -2,28 +2,11 @@
 
 use super::*;
 
-/// Numbers before the rows: series, segments, number and place of the answer that ended it.
-pub const HEAD_LEN: usize = 4;
-
-/// Numbers of a row: id, rows, NaN rows, smallest, largest.
-pub const ROW_LEN: usize = 5;
-
-/// Numbers of a report on up to 256 series.
-pub const REPORT_LEN: usize = HEAD_LEN + 256 * ROW_LEN;
+/// Before the rows are series, segments, number and place of the answer that ended it. A row is id,
+/// rows, NaN rows, smallest, largest.
+pub use depot_wal::sys::{REPORT_HEAD as HEAD_LEN, REPORT_LEN, ROW_LEN};
 
 pub type Numbers = [u64; REPORT_LEN];
-
-extern "C" {
-    fn depot_wal_report_segment(
-        version: u32,
-        segment: *const u8,
-        segment_len: usize,
-        buffer: *mut u8,
-        buffer_len: usize,
-        report: *mut u64,
-        out: *mut u64,
-    ) -> u32;
-}
 
 /// The refusal's place.
 pub fn add_segment(

@@ -2,16 +2,6 @@
 
 use super::*;
 
-extern "C" {
-    fn depot_wal_resume(
-        version: u32,
-        segment: *mut u8,
-        segment_len: usize,
-        survived: usize,
-        out: *mut u64,
-    ) -> u32;
-}
-
 /// The place for the next record, the refusal's place, and the pair.
 pub fn resume(version: u32, segment: &mut [u8], survived: usize) -> Answer<4> {
     let (length, segment) = (segment.len(), pointer_mut(segment));

@@ -2,6 +2,7 @@
 //! program with its software checksum, and beside the SSE4.2 instruction; the listing program LIST
 //! (by default target/bin/list) beside `SECOND list` (by default `bench list`), and the report
 //! program REPORT (by default target/bin/report) beside `SECOND report`.
+//! `bench log`: the Rust crate's log alone.
 //! `bench list`: the second program's listing of standard input. `bench report NAME..`: its report.
 
 mod bodies;
@@ -11,6 +12,7 @@ mod feed;
 mod hardware;
 mod index;
 mod list;
+mod log;
 mod records;
 mod replay;
 mod report;
@@ -30,6 +32,7 @@ fn main() {
     let words: Vec<OsString> = std::env::args_os().skip(1).collect();
     match words.split_first() {
         Some((first, [])) if first == "list" => return list::list_as_second(),
+        Some((first, [])) if first == "log" => return println!("{}", log::bench()),
         Some((first, names)) if first == "report" => return report::report_as_second(names),
         _ => {}
     }
@@ -49,6 +52,7 @@ fn main() {
         replay::bench(),
         report::bench(&reports(&words)),
         checkpoint::bench(),
+        log::bench(),
     ];
     println!(
         "bench: time of the second program / ours plain, / ours with table, and of sse4.2 / ours \

@@ -37,6 +37,24 @@ pub fn time<S: ?Sized, const N: usize>(
     Rounds(times)
 }
 
+/// Times the calls in the same way, each on a state of its own: what makes a call is not timed.
+pub fn time_fresh<'a, const N: usize>(
+    rounds: usize,
+    repeats: usize,
+    makers: [&dyn Fn() -> Box<dyn FnOnce() + 'a>; N],
+) -> Rounds<N> {
+    let mut times = [const { Vec::new() }; N];
+    for _ in 0..rounds {
+        for (make, times) in makers.iter().zip(&mut times) {
+            let call = make();
+            let start = Instant::now();
+            call();
+            times.push(start.elapsed().as_nanos() as f64 / repeats as f64);
+        }
+    }
+    Rounds(times)
+}
+
 impl<const N: usize> Rounds<N> {
     /// No round yet.
     pub const fn none() -> Self {
