@@ -1,9 +1,8 @@
 # make demo      the main job, shown: switches written, the power cut in the middle of one, what comes back;
 #                then a checkpoint into the spare partition, with the power cut at every step
 # make test      everything that has to hold: rt ci, then the comparisons (tools/gate); .ci/run calls it
-# make bench     our speed beside the second program's and the SSE4.2 instruction's, and that of the Rust crate's log
-#                beside the C call and a write, in one run (about a minute)
-#                and depot-wal's beside reading the file and the library's call
+# make bench     our speed beside the second program's and the SSE4.2 instruction's; that of the Rust crate's log
+#                beside the C call and a write, and of depot-wal beside reading the file and the library's call
 # make install   header, archive, table for flash, depot_wal.pc, programs and man page below PREFIX (/usr/local), which
 #                is put below DESTDIR where that is given; make uninstall takes them away again
 # make valgrind  the C test and the listing on hostile inputs under valgrind (slow, not part of the test)

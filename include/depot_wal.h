@@ -56,19 +56,21 @@
  *   making a name), so always go on with it; where resuming fails it is 0, and there is nothing to
  *   go on with. `error_at` is the place of the error, else 0.
  *   A replay: `error_at` is the place of the error, else 0; the others always count.
+ *   A report: `error_at` as in a replay; what is counted is in the report itself.
  *   A checkpoint: `next` is where its records end in the target; `error_at` as in a replay.
  *   `good`, of resuming, a feed and a replay, is the good length so far, whatever is returned.
  *   A place is an offset in the segment or in the body.
  *   On an error or at an end nothing but *out has changed, and *good is as it was given; of the
- *   page feed, of a replay and of a checkpoint, see there.
+ *   page feed, of a replay, of a report and of a checkpoint, see there.
  *
  * What the caller owes
- *   - Every pointer is valid for its length, `out`, `good`, `table` and `state` for their declared
- *     size, and aligned for its type. A pointer whose length is 0 may be NULL. `out`, `good`,
- *     `table` and `state` are never NULL.
+ *   - Every pointer is valid for its length, `out`, `good`, `table`, `state` and `report` for their
+ *     declared size, and aligned for its type. A pointer whose length is 0 may be NULL. `out`,
+ *     `good`, `table`, `state` and `report` are never NULL.
  *   - What a call may write (the segment of a write or of resuming, the buffer, a checkpoint's
- *     target and its two buffers, `out`, `good`, `state`, a report, a table to be filled) does not
- *     overlap anything else that is passed to the same call.
+ *     target and its two buffers, an index or a name that is made, `out`, `good`, `state`,
+ *     `report`, a table to be filled) does not overlap anything else that is passed to the same
+ *     call.
  *   - Nobody else writes any of this memory while the call runs.
  *   Nothing more: any bytes, place, length, type and number get a defined result.
  *
@@ -90,7 +92,7 @@
  *   reads or writes a segment is told it, and a segment is read as the version that it was written
  *   in: read as the other one, its records are DEPOT_WAL_BAD_SUM. Any other number is
  *   DEPOT_WAL_BAD_NAME with place 0, before all else, and nothing but *out changes; a feed is then
- *   started for version 1, and of a checkpoint see there.
+ *   started for version 1, and of a report and of a checkpoint see there.
  *
  * From memory to the medium
  *   A call works on memory, and a write stores its bytes there in no promised order. The caller
@@ -123,9 +125,9 @@
  *                   did not survive is zero in the segment now: bring it to the medium too. Once
  *                   the same records are written, the segment is byte for byte as if the power had
  *                   never failed, however often it does.
- *   otherwise       These bytes are not a log of this library that was cut off: they are corrupt,
- *                   or of another program. Keep them for whoever looks into it, and start a new
- *                   segment.
+ *   otherwise       If the arguments are right, these bytes are not a log of this library that was
+ *                   cut off: they are corrupt, or of another program or version. Keep them for
+ *                   whoever looks into it, and start a new segment.
  *
  * The good length, for a technician
  *   Every answer of a reading, the errors too, comes with a struct depot_wal_good: how many records
@@ -165,7 +167,7 @@ extern "C" {
 
 #define DEPOT_WAL_TABLE_LEN  2048 /* numbers in the checksum's table */
 #define DEPOT_WAL_FEED_LEN   16   /* numbers in the state of a page feed */
-#define DEPOT_WAL_SERIES_MAX 256  /* series in the table of a replay */
+#define DEPOT_WAL_SERIES_MAX 256  /* series in the table of a replay, and in a report */
 #define DEPOT_WAL_REPLAY_LEN 1280 /* numbers in that table: five for each series */
 #define DEPOT_WAL_NIGHT_MAX  1024 /* segments in a report */
 #define DEPOT_WAL_REPORT_LEN 1284 /* numbers in a report: four, then five for each series */
@@ -211,7 +213,7 @@ enum {
     DEPOT_WAL_BAD_LIST = 25,     /* strings or spans whose numbers do not go together */
     DEPOT_WAL_WRONG_KIND = 26,   /* an entry for, or a histogram in, a body of another type */
     DEPOT_WAL_BAD_RANGE = 27,    /* a number of a histogram that does not fit 32 bits */
-    DEPOT_WAL_TABLE_FULL = 28,   /* a log with more than 256 series */
+    DEPOT_WAL_TABLE_FULL = 28,   /* more than 256 series in a log or in a report */
     DEPOT_WAL_BAD_INDEX = 29,    /* not the index of this segment */
     DEPOT_WAL_BAD_NAME = 30,     /* not the name of a segment; no such sequence or version */
     DEPOT_WAL_END = 200,         /* the end of the log or of the body; no error */
@@ -390,17 +392,17 @@ struct depot_wal_extremes {
     uint64_t id;       /* series id */
     uint64_t rows;     /* how many rows it has */
     uint64_t nans;     /* how many of these are NaN */
-    uint64_t smallest; /* the 64 bits of the smallest other reading, and of the largest; both 0 */
-    uint64_t largest;  /* while every row is NaN */
+    uint64_t smallest; /* the 64 bits of the smallest other reading; 0 while every row is NaN */
+    uint64_t largest;  /* those of the largest; 0 likewise */
 };
 
-/* A report over segments. With the first four numbers zero it is a fresh one; the library keeps it
- * from call to call. */
+/* A report over segments. With the first four numbers zero it is a fresh one. It is the caller's,
+ * and goes from call to call as the last one left it. */
 struct depot_wal_report {
     uint64_t series;   /* how many series it has, which are its first rows, as first met */
     uint64_t segments; /* how many segments were counted */
-    uint64_t error;    /* the error that ended the report, and its place; 0 while it goes on */
-    uint64_t error_at;
+    uint64_t error;    /* the error that ended the report; 0 while it goes on */
+    uint64_t error_at; /* its place; 0 likewise */
     struct depot_wal_extremes rows[DEPOT_WAL_SERIES_MAX];
 };
 
@@ -514,7 +516,7 @@ depot_wal_status depot_wal_read(uint32_t version, const uint8_t *segment, size_t
  * Result: where they end inside a record, its start; where they end clean, the place behind the
  * last record, or the next page where 1 to 6 bytes are left in its page: these are set to zero. So
  * zeros behind the last record, as of an empty page, are written over. The good length, also on an
- * error, is of the records that came out.
+ * error, is of the records that came out; {0, 0} with the first three errors.
  * Errors, with error_at; `next` is 0:
  *   DEPOT_WAL_BAD_NAME    0  no such version
  *   DEPOT_WAL_BAD_BUFFER  0  the segment is not one or more whole pages, or is above
@@ -592,10 +594,10 @@ uint32_t depot_wal_crc32c(const uint8_t *data, size_t len);
  * table. flash/depot_wal_flash_table.h has it as a constant, which costs firmware no RAM. */
 void depot_wal_table(uint32_t table[DEPOT_WAL_TABLE_LEN]);
 
-/* The calls with a table do the same as those without, and are quicker on data, or fragments,
- * below 512 bytes; longer ones do not use the table. The promise that what is written reads back
- * holds for the plain calls and for a table that depot_wal_table filled. The comments below say
- * what any other table does, one that was never filled for instance. */
+/* The calls with a table do the same as those without, and take a little less work on data, or
+ * fragments, below 512 bytes (docs/SPEED.md); longer ones do not use the table. The promise that
+ * what is written reads back holds for the plain calls and for a table that depot_wal_table filled.
+ * The comments below say what any other table does, one that was never filled for instance. */
 
 /* As depot_wal_crc32c. With any other table the sum of data below 512 bytes may differ from CRC-32C
  * and may not show corruption. */
@@ -833,9 +835,10 @@ depot_wal_status depot_wal_replay_strict(uint32_t version,
 
 /* Adds the rows of a segment to a report: for each series as first met, how many rows it has, how
  * many of them are NaN, and the smallest and the largest other reading as floats. Of two equal
- * readings, as -0 and 0, the first is kept. Series are those of sample rows; other bodies have none.
- * A record whose body type is unknown is skipped. Each record counts wholly or not at all.
- * Result: the segment was read to its clean end.
+ * readings, as -0 and 0, the first is kept. Series are those of sample rows; other bodies have
+ * none. A record whose first byte is not in enum depot_wal_type is skipped. Each record counts
+ * wholly or not at all.
+ * Result: the segment was read to its clean end; error_at is 0.
  * Errors, with error_at:
  *   DEPOT_WAL_BAD_PLACE   0         no call left the report so: too many series or segments, or an
  *                                   `error` other than 0, DEPOT_WAL_BAD_BUFFER and
@@ -852,11 +855,11 @@ depot_wal_status depot_wal_replay_strict(uint32_t version,
  *                                   DEPOT_WAL_UNKNOWN_TYPE
  *   DEPOT_WAL_TABLE_FULL  record    the record brings more than DEPOT_WAL_SERIES_MAX series: this
  *                                   ends the report
- * "record" is the start of that record; the last two are checked for each, in this order.
- * A `smallest` or `largest` that is a NaN, which no call leaves, is taken as 0 by the next row of its
- * series, and stored as 0 then. Counts wrap at 2^64.
- * Changes: the first four numbers of the report, its rows up to `series` (the others stay), *out, and
- * the buffer, which each record that is read overwrites from its front. */
+ * "record" is the start of that record. The last two are checked for each record, in this order.
+ * A `smallest` or `largest` that is a NaN, which no call leaves, is taken as 0 by the next row of
+ * its series, and stored as 0 then. Counts wrap at 2^64.
+ * Changes: the first four numbers of the report, its rows up to `series` (the others stay), *out,
+ * and the buffer, which each record that is read overwrites from its front. */
 depot_wal_status depot_wal_report_segment(uint32_t version,
                                           const uint8_t *segment, size_t segment_len,
                                           uint8_t *buffer, size_t buffer_len,
@@ -905,8 +908,8 @@ depot_wal_status depot_wal_report_segment(uint32_t version,
  *   DEPOT_WAL_NO_ROOM      record    it does not fit into the rest of the target
  * "record" is the start of that record in the source. Of the third and the fourth the first along
  * the source counts, and the whole source is gone through for them before anything is written:
- * `next` is 0 then, as before. At one of the last two, which are checked for each record in this
- * order, the records before stand in the target, and `next` is where they end.
+ * `next` is 0 then, as with the first two. At one of the last two, which are checked for each
+ * record in this order, the records before stand in the target, and `next` is where they end.
  * Changes: the bytes of the target before `next`, *out, and the two buffers, which are the call's
  * own: whatever it returns, both are zero in their whole length, if both have at least
  * DEPOT_WAL_RECORD_MAX bytes; else both are as they were. */

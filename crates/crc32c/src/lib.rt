@@ -1,10 +1,16 @@
-// CRC-32C (Castagnoli, FORMAT 3). Short data goes eight bytes at a time by a table: the small one
-// of this crate, or a larger one that the caller fills once. Long data is folded by two sparse
-// multiples of the polynomial, one after the other, which needs no table.
-mod nibbles;
-
+// CRC-32C (Castagnoli, FORMAT 3). Short data goes eight bytes at a time: by rows of constants in
+// read-only memory, or by a table that the caller fills once. Long data is folded by two sparse
+// multiples of the polynomial, one after the other, which needs neither.
+use crc32c_rows_first::row0;
+use crc32c_rows_first::row1;
+use crc32c_rows_first::row2;
+use crc32c_rows_first::row3;
+use crc32c_rows_later::row4;
+use crc32c_rows_later::row5;
+use crc32c_rows_later::row6;
+use crc32c_rows_later::row7;
 use numbers::smaller;
-use numbers::wide32;
+use numbers::wide64;
 ghost use mathlib.Core.Path.{_≡_};
 ghost use mathlib.Core.List.{[], _∷_};
 ghost use Prim.Native.Nat.{_+_, _-_, _*_, _/_, _%_, _<_, _≤_, min};
@@ -12,8 +18,7 @@ ghost use lib.ListN.{length, take, drop};
 ghost use lib.Bits.{bitXor};
 ghost use Rattle.crc32c_format.specs.Crc.{bitSteps, register, crc32c};
 ghost use Rattle.crc32c_format.specs.Bytes.{littleEndian};
-ghost use Rattle.crc32c_format.specs.Table.{nibbleTable};
-ghost use Rattle.crc32c_format.specs.TableSum.{lookUp2, lookUp4, tableStep1, tableStep4, tableStep8, steps, eightsEnd, foursEnd, tableRegister, registerBy, sumBy};
+ghost use Rattle.crc32c_format.specs.TableSum.{lookUp2, lookUp4, tableStep1, tableStep4, tableStep8, steps, tableRegister, registerBy, sumBy};
 ghost use Rattle.crc32c_format.specs.Method.Fold.{onto290, onto130, taps, Folded, Slid, Cleared, Rest};
 
 // What a caller without a table passes: too short to be used.
@@ -38,138 +43,139 @@ fn load4(s: &[u8], at: usize) -> u32
     (load2(s, at) as u32) + (load2(s, at + 2) as u32) * 0x1_0000
 }
 
-// ---- by the small table
-
-// Four bits, and one, two and four bytes, after their own bit steps and 4 * k more.
-fn left_half(t: &[u32; 256], k: usize, x: usize) -> u32
-    requires { ⌜ (now t ≡ nibbleTable) × (k < 16) × (x < 16) ⌝ }
-    ensures { λ r. ⌜ r ≡ bitSteps (4 + 4 * k) x ⌝ }
+fn load8(s: &[u8], at: usize) -> u64
+    requires { ⌜ at + 8 ≤ length (now s) ⌝ }
+    ensures { λ r. ⌜ r ≡ littleEndian (take 8 (drop at (now (s .entry)))) ⌝ }
 {
-    t[k * 16 + x]
+    (load4(s, at) as u64) + (load4(s, at + 4) as u64) * 0x1_0000_0000
 }
 
-fn left1(t: &[u32; 256], k: usize, x: u32) -> u32
-    requires { ⌜ (now t ≡ nibbleTable) × (k < 15) × (x < 256) ⌝ }
-    ensures { λ r. ⌜ r ≡ bitSteps (8 + 4 * k) x ⌝ }
+// ---- by the rows
+
+// A row is a function with a constant for each byte (tools/rows). The compiler makes it a load from
+// read-only memory where it has one call site, and a call for each byte where it has two. So each
+// row is named once, and all plain calls share one loop, in `short`.
+
+// A byte as the rows want it.
+fn index(x: u32) -> u8
+    requires { ⌜ x < 256 ⌝ }
+    ensures { λ r. ⌜ r ≡ bitXor x 128 ⌝ }
 {
-    left_half(t, k + 1, (x % 16) as usize) ^ left_half(t, k, (x / 16) as usize)
+    (x as u8) ^ 0x80
 }
 
-fn left2(t: &[u32; 256], k: usize, x: u32) -> u32
-    requires { ⌜ (now t ≡ nibbleTable) × (k < 13) × (x < 65536) ⌝ }
-    ensures { λ r. ⌜ r ≡ bitSteps (16 + 4 * k) x ⌝ }
+// The bytes 6 and 7 of a block of eight, 4 and 5, 2 and 3, 0 and 1, after the bit steps to its end.
+fn bytes67(x: u32) -> u32
+    requires { ⌜ x < 65536 ⌝ }
+    ensures { λ r. ⌜ r ≡ bitSteps 16 x ⌝ }
 {
-    left1(t, k + 2, x % 0x100) ^ left1(t, k, x / 0x100)
+    row1(index(x % 0x100)) ^ row0(index(x / 0x100))
 }
 
-fn left4(t: &[u32; 256], k: usize, x: u32) -> u32
-    requires { ⌜ (now t ≡ nibbleTable) × (k < 9) ⌝ }
-    ensures { λ r. ⌜ r ≡ bitSteps (32 + 4 * k) x ⌝ }
+fn bytes45(x: u32) -> u32
+    requires { ⌜ x < 65536 ⌝ }
+    ensures { λ r. ⌜ r ≡ bitSteps 32 x ⌝ }
 {
-    left2(t, k + 4, x % 0x1_0000) ^ left2(t, k, x / 0x1_0000)
+    row3(index(x % 0x100)) ^ row2(index(x / 0x100))
 }
 
-// The register after one byte, after four, and after eight.
-fn step1(t: &[u32; 256], state: u32, b: u8) -> u32
-    requires { ⌜ now t ≡ nibbleTable ⌝ }
-    ensures { λ r. ⌜ r ≡ bitSteps 8 (bitXor state b) ⌝ }
+fn bytes23(x: u32) -> u32
+    requires { ⌜ x < 65536 ⌝ }
+    ensures { λ r. ⌜ r ≡ bitSteps 48 x ⌝ }
 {
-    let x = state ^ (b as u32);
-    left1(t, 0, x % 0x100) ^ (x / 0x100)
+    row5(index(x % 0x100)) ^ row4(index(x / 0x100))
 }
 
-fn step4(t: &[u32; 256], state: u32, s: &[u8], at: usize) -> u32
-    requires { ⌜ (now t ≡ nibbleTable) × (at + 4 ≤ length (now s)) ⌝ }
-    ensures { λ r. ⌜ r ≡ register state (take 4 (drop at (now (s .entry)))) ⌝ }
+fn bytes01(x: u32) -> u32
+    requires { ⌜ x < 65536 ⌝ }
+    ensures { λ r. ⌜ r ≡ bitSteps 64 x ⌝ }
 {
-    left4(t, 0, state ^ load4(s, at))
+    row7(index(x % 0x100)) ^ row6(index(x / 0x100))
 }
 
-// Four bytes that are not xored with the register, after their 32 bit steps. Looked up one by one,
-// they need no shifts and fewer masks.
-fn four_alone(t: &[u32; 256], s: &[u8], at: usize) -> u32
-    requires { ⌜ (now t ≡ nibbleTable) × (at + 4 ≤ length (now s)) ⌝ }
-    ensures { λ r. ⌜ r ≡ bitSteps 32 (littleEndian (take 4 (drop at (now (s .entry))))) ⌝ }
+// Its last four bytes, and its first four.
+fn bytes4567(x: u32) -> u32
+    ensures { λ r. ⌜ r ≡ bitSteps 32 x ⌝ }
 {
-    let a = left1(t, 6, wide32(s[at]));
-    let b = left1(t, 4, wide32(s[at + 1]));
-    let c = left1(t, 2, wide32(s[at + 2]));
-    let d = left1(t, 0, wide32(s[at + 3]));
-    a ^ b ^ c ^ d
+    bytes45(x % 0x1_0000) ^ bytes67(x / 0x1_0000)
 }
 
-// The later four bytes first: they do not wait for the register.
-fn step8(t: &[u32; 256], state: u32, s: &[u8], at: usize) -> u32
-    requires { ⌜ (now t ≡ nibbleTable) × (at + 8 ≤ length (now s)) ⌝ }
-    ensures { λ r. ⌜ r ≡ register state (take 8 (drop at (now (s .entry)))) ⌝ }
+fn bytes0123(x: u32) -> u32
+    ensures { λ r. ⌜ r ≡ bitSteps 64 x ⌝ }
 {
-    let next = at + 4;
-    four_alone(t, s, next) ^ left4(t, 8, state ^ load4(s, at))
+    bytes01(x % 0x1_0000) ^ bytes23(x / 0x1_0000)
 }
 
-// The register after as many eights as there are, after four more where four are left, and after
-// the rest.
-fn eights(t: &[u32; 256], state: u32, s: &[u8]) -> u32
-    requires { ⌜ now t ≡ nibbleTable ⌝ }
-    ensures { λ r. ⌜ register r (drop (eightsEnd (now (s .entry))) (now (s .entry))) ≡ register state
-        (now (s .entry)) ⌝ }
+// The register after a first block, to which `rest` is xored, and after the bytes of `s` from `at`
+// on. The last four bytes of a block come first: they do not wait for the register.
+fn blocks(first: u64, rest: u32, s: &[u8], at: usize) -> u32
+    requires { ⌜ (at ≤ length (now s)) × ((length (now s) - at) % 8 ≡ 0) ⌝ }
+    ensures { λ r. ⌜ r ≡ register (bitXor (bitSteps 64 first) rest) (drop at (now (s .entry))) ⌝ }
 {
     let n = s.len();
-    let mut c = state;
-    let mut i = 0;
-    while 8 <= n - i {
-        c = step8(t, c, s, i);
+    let mut low = (first % 0x1_0000_0000) as u32;
+    let mut high = (first / 0x1_0000_0000) as u32;
+    let mut over = rest;
+    let mut i = at;
+    loop {
+        let c = bytes4567(high) ^ bytes0123(low) ^ over;
+        if n - i < 8 {
+            return c;
+        }
+        low = c ^ load4(s, i);
+        high = load4(s, i + 4);
+        over = 0;
         i += 8;
     }
-    c
 }
 
-fn four(t: &[u32; 256], state: u32, s: &[u8]) -> u32
-    requires { ⌜ now t ≡ nibbleTable ⌝ }
-    ensures { λ r. ⌜ register r (drop (foursEnd (now (s .entry))) (now (s .entry))) ≡ register state
-        (drop (eightsEnd (now (s .entry))) (now (s .entry))) ⌝ }
+// Up to seven bytes as a number.
+fn load_few(s: &[u8]) -> u64
+    requires { ⌜ length (now s) < 8 ⌝ }
+    ensures { λ r. ⌜ r ≡ littleEndian (now (s .entry)) ⌝ }
 {
-    let n = s.len();
-    if 4 <= n % 8 {
-        let at = n - n % 8;
-        step4(t, state, s, at)
+    let mut i = s.len();
+    let mut x: u64 = 0;
+    while 0 < i {
+        i -= 1;
+        x = x * 256 + wide64(s[i]);
+    }
+    x
+}
+
+// The first eight bytes as a number, or as many as there are.
+fn load_first(s: &[u8]) -> u64
+    ensures { λ r. ⌜ r ≡ littleEndian (take 8 (now (s .entry))) ⌝ }
+{
+    if 8 <= s.len() {
+        load8(s, 0)
     } else {
-        state
+        load_few(s)
     }
 }
 
-fn singles(t: &[u32; 256], state: u32, s: &[u8]) -> u32
-    requires { ⌜ now t ≡ nibbleTable ⌝ }
-    ensures { λ r. ⌜ r ≡ register state (drop (foursEnd (now (s .entry))) (now (s .entry))) ⌝ }
-{
-    let n = s.len();
-    let mut c = state;
-    let mut i = n - n % 4;
-    while i < n {
-        c = step1(t, c, s[i]);
-        i += 1;
-    }
-    c
-}
-
-// The register after the bytes of a slice.
-fn register_by_nibbles(t: &[u32; 256], state: u32, s: &[u8]) -> u32
-    requires { ⌜ now t ≡ nibbleTable ⌝ }
+// The register after the bytes of a slice, in blocks of eight up to its end. The first block has
+// one to eight bytes, with zeros before them, which leave a register of zero as it is. The part of
+// the state that meets those bytes is xored to them; the rest of it, shifted, comes after them.
+fn register_by_rows(state: u32, s: &[u8]) -> u32
     ensures { λ r. ⌜ r ≡ register state (now (s .entry)) ⌝ }
 {
-    let a = eights(t, state, s);
-    let b = four(t, a, s);
-    singles(t, b, s)
+    let n = s.len();
+    if n == 0 {
+        return state;
+    }
+    let more = (n - 1) % 8;
+    let first = (load_first(s) ^ (state as u64)) << ((56 - 8 * more) as u64);
+    let rest = ((state as u64) >> ((8 * more) as u64) >> 8) as u32;
+    blocks(first, rest, s, more + 1)
 }
 
-// The register after the bytes of a slice, for short data. Each use of a constant array stores it
-// whole on the stack, so the small table is named in this one function and passed on from here.
-// `&s[0..]` passes address and length in registers; `s` would copy the pair in memory first.
+// The same as one piece of machine code, for short data. `&s[0..]` passes address and length in
+// registers; `s` would copy the pair in memory first.
 fn short(state: u32, s: &[u8]) -> u32
     ensures { λ r. ⌜ r ≡ register state (now (s .entry)) ⌝ }
 {
-    let table = nibbles::NIBBLES;
-    register_by_nibbles(&table, state, &s[0..])
+    register_by_rows(state, &s[0..])
 }
 
 // ---- by folding
@@ -262,7 +268,9 @@ fn rest_again(r: &mut [u8], y: &[u8], m: &[u8])
     }
 }
 
-// The register after the 290 bytes.
+// The register after the 290 bytes. What is left of them is summed in two parts: a second call site
+// keeps `short` a function of its own, also in an archive where no other call needs it; merged into
+// its caller it would be too large for that one to be merged into its own.
 fn after_rest(m: &[u8]) -> u32
     requires { ⌜ length (now m) ≡ 290 ⌝ }
     ensures { λ r. ⌜ r ≡ register 0 (now (m .entry)) ⌝ }
@@ -272,7 +280,8 @@ fn after_rest(m: &[u8]) -> u32
     fold_again(&mut y, m, 160);
     let mut r = [0u8; 130];
     rest_again(&mut r, &y[160..], &m[160..]);
-    short(0, &r)
+    let c = short(0, &r[0..66]);
+    short(c, &r[66..])
 }
 
 // The register after the bytes of a slice, for long data: all but the last 290 bytes are folded

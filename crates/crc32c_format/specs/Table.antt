@@ -20,7 +20,3 @@ tableOf w n = map (tableEntry w) (upFrom 0 n)
 -- the table that the caller fills, for slicing by eight: eight rows, one entry for each byte
 abbrev pub sliceTable : List ℕ
 sliceTable = tableOf 8 2048
-
--- the small table: sixteen rows, one entry for each half of a byte
-abbrev pub nibbleTable : List ℕ
-nibbleTable = tableOf 4 256

@@ -231,8 +231,9 @@ pub fn good_before(source: &Source, segment: &Segment, place: usize) -> Good {
 }
 
 /// How many whole records begin behind a place where a record is torn. A power failure leaves none
-/// there; a damaged length may, since a record then seems to end behind the bytes. One that is cut
-/// off is in four pages at most, so no more are searched.
+/// there, unless the data of the cut record hold one; a damaged length may, since a record then
+/// seems to end behind the bytes. One that is cut off is in four pages at most, so no more are
+/// searched.
 pub fn whole_behind(source: &Source, bytes: &[u8], torn: usize) -> u64 {
     let bytes = &bytes[..bytes.len().min(torn + 4 * PAGE)];
     let mut buffer = Box::new([0; RECORD_MAX]);

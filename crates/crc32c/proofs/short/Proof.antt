@@ -1,21 +1,18 @@
--- `short` meets its contract. The constant is the small table of the definition: both are computed
--- and compared. The slice is passed on whole.
+-- `short` meets its contract: the slice is passed on whole.
 use borrow.Author.Needs.{needs}
-use mathlib.Core.Path.{refl, ap, _∙_}
-use Rattle.crc32c_format.specs.Crc.{bitStep, bitSteps, register}
-use Rattle.crc32c_format.specs.Table.{upFrom, tableEntry, tableOf}
+use mathlib.Core.Path.{ap, _∙_}
+use Rattle.crc32c_format.specs.Crc.{register}
 use Rattle.crc32c_format.specs.Laws.{whole-part}
 use Rattle.crc32c.proofs.short.Statement.{statement}
 use Rattle.crc32c.proofs.short.Tie as tie
 
-register-by-nibbles-requires : tie.Need-register-by-nibbles-requires
-unfolding tableOf tableEntry upFrom bitSteps bitStep
-register-by-nibbles-requires c κs = refl
+register-by-rows-requires : tie.Need-register-by-rows-requires
+register-by-rows-requires c κs = search needs
 
 returns : tie.Need-returns
 returns c =
-    let a = c .before .before .before .before .args in
-    c .register-by-nibbles .ensures ∙ ap (register (a .state)) (whole-part (a .s .now))
+    let a = c .before .before .before .args in
+    c .register-by-rows .ensures ∙ ap (register (a .state)) (whole-part (a .s .now))
 
 pub short-spec : {M : Type 1} → statement M
-short-spec = tie.close (tie.spec (λ c. search needs) (λ c. search needs) (λ c. search needs) register-by-nibbles-requires returns)
+short-spec = tie.close (tie.spec (λ c. search needs) (λ c. search needs) (λ c. search needs) register-by-rows-requires returns)

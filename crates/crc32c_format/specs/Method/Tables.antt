@@ -9,7 +9,7 @@ use lib.Bits.{bitXor}
 use lib.ListN.{length, getD, set, length-map, length-set, List·getD-map}
 use lib.Seq.{ext-getD}
 use Rattle.crc32c_format.specs.Crc.{bitSteps}
-use Rattle.crc32c_format.specs.Table.{upFrom, tableEntry, tableOf, sliceTable, nibbleTable}
+use Rattle.crc32c_format.specs.Table.{upFrom, tableEntry, tableOf, sliceTable}
 use Rattle.crc32c_format.specs.Method.Steps.{bitSteps-add, bitSteps-zero, bitSteps-split}
 use Rattle.crc32c_format.specs.Method.Lists.{set-more}
 
@@ -43,11 +43,6 @@ tableOf-at w n i h =
 pub slice-at : (k x : ℕ) → x < 256 → k < 8 → getD sliceTable (k * 256 + x) 0 ≡ bitSteps (8 + 8 * k) x
 unfolding tableEntry
 slice-at k x hx hk = tableOf-at 8 2048 (k * 256 + x) (omega arith) ∙ ap₂ bitSteps (omega arith) (omega arith)
-
-pub nibble-at : (t : List ℕ) → t ≡ nibbleTable → (k x : ℕ) → x < 16 → k < 16 → getD t (k * 16 + x) 0 ≡ bitSteps (4 + 4 * k) x
-unfolding tableEntry
-nibble-at t e k x hx hk =
-    ap (λ (l : List ℕ). getD l (k * 16 + x) 0) e ∙ tableOf-at 4 256 (k * 16 + x) (omega arith) ∙ ap₂ bitSteps (omega arith) (omega arith)
 
 -- ---- filling a table entry by entry
 

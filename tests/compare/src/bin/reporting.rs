@@ -336,5 +336,35 @@ fn compare_lengths(folder: &Folder, rng: &mut Rng) -> Result<u64, String> {
     for name in &night {
         folder.compare(std::slice::from_ref(name))?;
     }
-    Ok(1 + night.len() as u64)
+    Ok(1 + night.len() as u64 + compare_spoilt(folder)?)
+}
+
+/// Files above the limit that would be refused, be torn, or bring a 257th id, before it: nothing of
+/// them is added, and the report goes on behind them.
+fn compare_spoilt(folder: &Folder) -> Result<u64, String> {
+    let good = samples(&[(7, 1, 0)]);
+    let ids: Vec<(u64, i64, u64)> = (0..300).map(|id| (100 + id, 1, 0)).collect();
+    let mut flipped = Log::of(&[good.clone(), good.clone()]).bytes;
+    let last = flipped.len() - 1;
+    flipped[last] ^= 1;
+    let logs = [
+        Log::of(&[good.clone(), samples(&ids)]).bytes,
+        Log::of(&[good.clone(), vec![2, 0]]).bytes,
+        flipped,
+    ];
+    folder.put("000030", &Log::of(&[good]).bytes)?;
+    let mut cases = 0;
+    for bytes in &logs {
+        folder.put("000031", bytes)?;
+        let file = File::options().write(true).open(folder.path.join("000031"));
+        let grown = file.and_then(|file| file.set_len(SEGMENT_MAX as u64 + 1));
+        grown.map_err(|why| format!("000031: {why}"))?;
+        let text = folder.compare(&["000030", "000031", "000030"].map(OsString::from))?;
+        let wanted = "segment 2 1 0\nseries 7 2 0 ";
+        if !text.starts_with(wanted) || text.lines().count() != 2 {
+            return Err(format!("a spoilt one that is too long: {text:?}"));
+        }
+        cases += 1;
+    }
+    Ok(cases)
 }

@@ -24,7 +24,7 @@ sse4.2: the instruction sums 8 bytes in one step, with a latency of 3 cycles. Th
 calls overlap, so there it leads; those of one long sum wait for one another. The library is
 portable and knows no such instruction: it looks up tables, and from 512 bytes on folds by a sparse
 multiple of the polynomial in 16-byte vector steps down to 290 bytes, and by a second one in 8-byte
-steps down to 130, which go by the table.";
+steps down to 130, which go by the rows.";
 
 /// Prints a line for each length and hands back the summary.
 pub fn bench() -> String {
