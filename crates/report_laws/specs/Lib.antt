@@ -1,4 +1,5 @@
 pub mod PageClaims
 pub mod Laws
 pub mod Theorems
+pub mod Instances
 pub mod StandIns

@@ -1,5 +1,6 @@
 -- Request 12 (docs/CLAIMS.md): what is claimed of any calls that add a segment to a report page by
--- page. The format's own keep it for every checksum (Theorems); the stand-ins do not (StandIns).
+-- page. The format's own keep it for every checksum (Theorems), and so ours agree, each with its
+-- checksum (Instances); the stand-ins do not (StandIns).
 -- To be believed. Assumes nothing.
 use mathlib.Core.Path.{_≡_}
 use mathlib.Core.Bool.{true}
