@@ -1,6 +1,7 @@
 # make demo      the main job, shown: switches written, the power cut in the middle of one, what comes back;
 #                then a checkpoint into the spare partition, with the power cut at every step
 # make test      everything that has to hold: rt ci, then the comparisons (tools/gate); .ci/run calls it
+# make edits     wrong code that the gate leaves out, refused too (half an hour; not part of the test)
 # make bench     our speed beside the second program's and the SSE4.2 instruction's; that of the Rust crate's log
 #                beside the C call and a write, and of depot-wal beside reading the file and the library's call
 # make install   header, archive, table for flash, depot_wal.pc, programs and man page below PREFIX (/usr/local), which
@@ -22,7 +23,7 @@ PLACE := $(DESTDIR)$(abspath $(PREFIX))
 INSTALLED := include/depot_wal.h include/depot_wal_flash_table.h lib/libdepot_wal.a lib/pkgconfig/depot_wal.pc \
     share/depot_wal/depot_wal_flash_table.c share/man/man1/depot-wal.1 bin/depot-wal bin/depot-wal-list bin/depot-wal-report
 
-.PHONY: demo test bench install uninstall valgrind interop clean
+.PHONY: demo test edits bench install uninstall valgrind interop clean
 
 demo: $(ARCHIVE)
 	@mkdir -p build
@@ -33,6 +34,9 @@ demo: $(ARCHIVE)
 
 test:
 	@tools/gate
+
+edits:
+	@tools/edits
 
 bench: $(ARCHIVE)
 	@cargo build --quiet --release --offline --manifest-path tests/compare/Cargo.toml --bin bench
