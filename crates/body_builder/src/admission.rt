@@ -13,14 +13,14 @@ use wal_types::{
 };
 
 // Whether an entry may be added, or why not.
-#[derive(Drop)]
+#[derive(Clone, Copy)]
 pub enum Gate {
     Open,
     Shut(Refusal),
 }
 
 // A row's deltas to the first id and the first timestamp, or their zigzags.
-#[derive(Drop)]
+#[derive(Clone, Copy)]
 pub struct Deltas {
     pub id: u64,
     pub time: u64,

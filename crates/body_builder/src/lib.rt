@@ -1,5 +1,7 @@
 // Building a record body in a caller-owned buffer, entry by entry. The answers, and every byte of
 // the buffer afterwards, are those of body_format's definitions (FORMAT 10).
+#![tactic(auto)]
+
 pub mod admission;
 mod builder;
 pub mod rows;
@@ -16,7 +18,7 @@ use strings::{list_is_bad, list_size, put_list};
 use wal_types::{Offset, Refusal, SeriesId, Timestamp};
 
 // The state of a body that is being built (FORMAT 10.1): its tag, and the bytes of the buffer used.
-#[derive(Drop)]
+#[derive(Clone, Copy)]
 pub struct Body {
     pub tag: u8,
     pub used: Offset,
@@ -24,7 +26,7 @@ pub struct Body {
 
 // What starting a body or adding an entry answers: the next state, or the refusal. A refusal
 // changes no byte.
-#[derive(Drop)]
+#[derive(Clone, Copy)]
 pub enum Added {
     Next(Body),
     Refused(Refusal),

@@ -1,6 +1,8 @@
 // Adding a histogram, of type 7 or 8, to a body that is being built in a caller-owned buffer. The
 // answer, and every byte of the buffer afterwards, are those of body_format's definitions (FORMAT
 // 10). What the two types share is written once, with the bucket kind as an argument.
+#![tactic(auto)]
+
 pub mod buckets;
 pub mod front;
 mod heads;

@@ -2,6 +2,8 @@
 // at its place, and never pass through a list of lengths. The answers, and every byte of the buffer
 // afterwards, are those of body_format's definitions (FORMAT 10). Samples and tombstones have no
 // strings: they go through the methods of `Body`.
+#![tactic(auto)]
+
 mod strings;
 
 ghost use Rattle.std.specs.Prelude.{◌≡◌, ◌∷◌, ◌++◌, ◌+◌, ◌≤◌, length};

@@ -11,28 +11,28 @@ ghost use Rattle.body_copy.specs.Forms.{measured_of, size_taken, bytes_of, after
 use body_fields::{StringRead, string_field_at};
 
 // The bytes that a string takes, and the place after it in the other body; or it cannot be read.
-#[derive(Drop)]
+#[derive(Clone, Copy)]
 enum Measured {
     Got { size: usize, next: usize },
     Bad,
 }
 
 // The bytes that strings take; or one of them cannot be read.
-#[derive(Drop)]
+#[derive(Clone, Copy)]
 enum Taken {
     Size(usize),
     Bad,
 }
 
 // The bytes that a list of strings takes, and whether it is bad.
-#[derive(Drop)]
+#[derive(Clone, Copy)]
 pub(crate) struct List {
     pub size: usize,
     pub bad: bool,
 }
 
 // The places after a string: in the buffer, and in the other body.
-#[derive(Drop)]
+#[derive(Clone, Copy)]
 struct Copied {
     pub place: usize,
     pub next: usize,

@@ -16,14 +16,14 @@ use body_histogram::fields::{bucket_at, span_at};
 use wal_types::RECORD_LIMIT;
 
 // The bytes that an element takes, and the place after it in the other body.
-#[derive(Drop)]
+#[derive(Clone, Copy)]
 struct Measured {
     pub size: usize,
     pub next: usize,
 }
 
 // The places after an element: in the buffer, and in the other body.
-#[derive(Drop)]
+#[derive(Clone, Copy)]
 struct Copied {
     pub place: usize,
     pub next: usize,

@@ -1,6 +1,8 @@
 // Adding a histogram, of type 7 or 8, that is taken out of another body (FORMAT 24.3): its lists are
 // read there, element by element, once to measure them and once to write them. What the two types
 // share is here once, with the bucket kind as an argument.
+#![tactic(auto)]
+
 mod items;
 mod lists;
 

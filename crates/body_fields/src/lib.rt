@@ -1,5 +1,7 @@
 // The fields of a body (FORMAT 8), each decoded at its place. A fault is at the field's first byte.
 // ends.rt walks over them without their values.
+#![tactic(auto)]
+
 pub mod ends;
 
 ghost use Rattle.std.specs.Prelude.{◌≡◌, ◌*◌, ◌≤◌, length};
@@ -15,21 +17,21 @@ use wal_types::{Offset, Refusal};
 // ---- numbers
 
 // A number and the place after it.
-#[derive(Drop)]
+#[derive(Clone, Copy)]
 pub enum NumberRead {
     Got { value: u64, next: usize },
     Fault(Refusal),
 }
 
 // A signed number and the place after it.
-#[derive(Drop)]
+#[derive(Clone, Copy)]
 pub enum SignedRead {
     Got { value: i64, next: usize },
     Fault(Refusal),
 }
 
 // A place, or a fault on the way to it.
-#[derive(Drop)]
+#[derive(Clone, Copy)]
 pub enum Place {
     At(usize),
     Fault(Refusal),
@@ -107,7 +109,7 @@ pub fn varint_at(body: &[u8], at: usize) -> SignedRead
 // ---- strings
 
 // Where a string's bytes start, their number, and the place after them.
-#[derive(Drop)]
+#[derive(Clone, Copy)]
 pub enum StringRead {
     Got {
         start: usize,
@@ -118,7 +120,7 @@ pub enum StringRead {
 }
 
 // The number of strings in a list, where the first begins, and the place after the last.
-#[derive(Drop)]
+#[derive(Clone, Copy)]
 pub enum StringListRead {
     Got {
         count: usize,

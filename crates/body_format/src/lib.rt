@@ -1,5 +1,7 @@
 // What checking and reading a record body answers, and the tags of bodies. What a body means is in
 // specs/; `body_reader` reads one, `body_builder` builds one.
+#![tactic(auto)]
+
 use wal_types::{Offset, Refusal, SeriesId, Timestamp};
 
 // The tags (FORMAT 9.1): a body's first byte says its type. `type_byte` of specs/Entries.antt has
@@ -19,14 +21,14 @@ pub const HISTOGRAMS: u8 = 7;
 pub const FLOAT_HISTOGRAMS: u8 = 8;
 
 // What checking a body answers: its number of entries, or the refusal.
-#[derive(Drop)]
+#[derive(Clone, Copy)]
 pub enum CheckAnswer {
     Entries(usize),
     Refused(Refusal),
 }
 
 // Where the entry of a place is: there, the plain end of the body, or the refusal (FORMAT 11.3).
-#[derive(Drop)]
+#[derive(Clone, Copy)]
 pub enum EntryPlace {
     At(Offset),
     End,
@@ -35,7 +37,7 @@ pub enum EntryPlace {
 
 // An entry as it is read at a place of a body (FORMAT 11.3). A number that the type lacks is 0, and
 // the strings of an entry without any begin at the place after it.
-#[derive(Drop)]
+#[derive(Clone, Copy)]
 pub struct EntryView {
     pub tag: u8,
     pub id: SeriesId,
@@ -52,7 +54,7 @@ pub struct EntryView {
 }
 
 // What reading an entry answers: the entry, the plain end of the body, or the refusal.
-#[derive(Drop)]
+#[derive(Clone, Copy)]
 pub enum EntryAnswer {
     Found(EntryView),
     End,
@@ -60,7 +62,7 @@ pub enum EntryAnswer {
 }
 
 // What reading a string answers: where its bytes start and how many they are, or the refusal.
-#[derive(Drop)]
+#[derive(Clone, Copy)]
 pub enum StringAnswer {
     Found { start: Offset, length: usize },
     Refused(Refusal),
@@ -69,14 +71,14 @@ pub enum StringAnswer {
 // ---- histograms
 
 // The bucket kind, by which types 7 and 8 differ (FORMAT 9.4): whole numbers, or floats.
-#[derive(Drop)]
+#[derive(Clone, Copy)]
 pub enum BucketKind {
     Whole,
     Float,
 }
 
 // What a list of a histogram is a list of.
-#[derive(Drop)]
+#[derive(Clone, Copy)]
 pub enum Element {
     Span,
     Bucket(BucketKind),
@@ -84,7 +86,7 @@ pub enum Element {
 
 // The numbers of a histogram between its head and its lists. Floats are their 64 bits, which are
 // never interpreted; `zeros` and `count` are whole numbers in type 7 and floats in type 8.
-#[derive(Drop)]
+#[derive(Clone, Copy)]
 pub struct Numbers {
     pub hint: u8,
     pub schema: i32,
@@ -95,14 +97,14 @@ pub struct Numbers {
 }
 
 // The number of elements in a list, and where the first is.
-#[derive(Drop)]
+#[derive(Clone, Copy)]
 pub struct ListView {
     pub count: u64,
     pub first: Offset,
 }
 
 // The two sides of a histogram.
-#[derive(Drop)]
+#[derive(Clone, Copy)]
 pub struct SidesView {
     pub positive: ListView,
     pub negative: ListView,
@@ -110,7 +112,7 @@ pub struct SidesView {
 
 // A histogram as it is read at a place of a body (FORMAT 11.6): its lists by counts and first
 // places.
-#[derive(Drop)]
+#[derive(Clone, Copy)]
 pub struct HistogramView {
     pub tag: u8,
     pub id: SeriesId,
@@ -122,7 +124,7 @@ pub struct HistogramView {
 }
 
 // What reading a histogram answers: the histogram, the plain end of the body, or the refusal.
-#[derive(Drop)]
+#[derive(Clone, Copy)]
 pub enum HistogramAnswer {
     Found(HistogramView),
     End,
@@ -130,7 +132,7 @@ pub enum HistogramAnswer {
 }
 
 // What reading a span answers: its offset and length and the place after it, or the refusal.
-#[derive(Drop)]
+#[derive(Clone, Copy)]
 pub enum SpanAnswer {
     Found {
         offset: i32,
@@ -141,7 +143,7 @@ pub enum SpanAnswer {
 }
 
 // What reading a bucket answers: its 64 bits and the place after it, or the refusal.
-#[derive(Drop)]
+#[derive(Clone, Copy)]
 pub enum BucketAnswer {
     Found { bits: u64, next: Offset },
     Refused(Refusal),

@@ -18,7 +18,7 @@ use wal_types::{Offset, Refusal};
 const MOST_32: u64 = 0xFFFF_FFFF;
 
 // A signed number of 32 bits and the place after it.
-#[derive(Drop)]
+#[derive(Clone, Copy)]
 pub(crate) enum Int32Read {
     Got { value: i32, next: usize },
     Fault(Refusal),

@@ -1,6 +1,8 @@
 // Types 7 and 8 (FORMAT 9.4): histograms, each read at its place with its lists by their counts and
 // first places, or only walked over to its end. What the two types share is here once, with the
 // bucket kind as an argument.
+#![tactic(auto)]
+
 pub mod fields;
 mod lists;
 
@@ -22,14 +24,14 @@ use lists::{ListsRead, lists_at};
 use wal_types::{Offset, Refusal, Timestamp};
 
 // The numbers of a histogram and the place after them.
-#[derive(Drop)]
+#[derive(Clone, Copy)]
 enum NumbersRead {
     Got { numbers: Numbers, next: usize },
     Fault(Refusal),
 }
 
 // A histogram, which has the place after it.
-#[derive(Drop)]
+#[derive(Clone, Copy)]
 enum HistogramRead {
     Got(HistogramView),
     Fault(Refusal),

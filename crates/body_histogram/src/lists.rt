@@ -12,21 +12,21 @@ use body_format::{BucketKind, Element, ListView, SidesView, SpanAnswer};
 use wal_types::{Offset, Refusal};
 
 // A list and the place after it.
-#[derive(Drop)]
+#[derive(Clone, Copy)]
 pub(crate) enum ListRead {
     Got { list: ListView, next: usize },
     Fault(Refusal),
 }
 
 // The lists of both sides and the place after them.
-#[derive(Drop)]
+#[derive(Clone, Copy)]
 pub(crate) enum SidesRead {
     Got { sides: SidesView, next: usize },
     Fault(Refusal),
 }
 
 // All four lists and the place after them.
-#[derive(Drop)]
+#[derive(Clone, Copy)]
 pub(crate) enum ListsRead {
     Got {
         spans: SidesView,

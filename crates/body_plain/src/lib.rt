@@ -1,5 +1,7 @@
 // Types 1, 3 and 6 (FORMAT 9.1): entries that stand alone. Each is read at its place, or only
 // walked over to its end: counting needs no more.
+#![tactic(auto)]
+
 ghost use Rattle.std.specs.Prelude.{◌≡◌};
 ghost use Rattle.body_format.specs.Entries.{known, series_at, tombstone_at, metadata_at, entry_at};
 ghost use Rattle.body_format.specs.Reading.{answer_entry, entry_known};
@@ -15,7 +17,7 @@ use body_format::{EntryAnswer, EntryView, METADATA, SERIES, TOMBSTONES};
 use wal_types::{Offset, Refusal, SeriesId, Timestamp};
 
 // The types without rows.
-#[derive(Drop)]
+#[derive(Clone, Copy)]
 pub enum PlainType {
     Series,
     Tombstones,

@@ -1,5 +1,7 @@
 // A record body in a caller-owned slice: checked whole, and read entry by entry, string by string,
 // and of a histogram span by span and bucket by bucket. The answers are those of body_format's definitions (FORMAT 11).
+#![tactic(auto)]
+
 mod places;
 pub mod samples;
 mod tags;

@@ -12,7 +12,7 @@ use body_format::{
 use body_plain::PlainType;
 use wal_types::Refusal;
 
-#[derive(Drop)]
+#[derive(Clone, Copy)]
 pub(crate) enum BodyLayout {
     // Samples, and with labels exemplars.
     Rows { labelled: bool },
@@ -21,14 +21,14 @@ pub(crate) enum BodyLayout {
 }
 
 // The type that a tag or a body has, or the refusal.
-#[derive(Drop)]
+#[derive(Clone, Copy)]
 pub(crate) enum TypeRead {
     Known(BodyLayout),
     Refused(Refusal),
 }
 
 // The bucket kind that a body has, or the refusal.
-#[derive(Drop)]
+#[derive(Clone, Copy)]
 pub(crate) enum KindRead {
     Known(BucketKind),
     Refused(Refusal),

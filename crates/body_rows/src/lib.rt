@@ -1,6 +1,8 @@
 // Types 2 and 4 (FORMAT 9.3): rows, after a first id and a first timestamp. Each is read at its
 // place, or only walked over to its end: counting needs no more. What histograms share with them is
 // here too: the head of a row, and where the row of a place is.
+#![tactic(auto)]
+
 ghost use Rattle.std.specs.Prelude.{◌≡◌, Bool, true, ◌<◌, length};
 ghost use Rattle.wal_types.specs.Deltas.{plus, to_bits, int_from_bits};
 ghost use Rattle.varint.specs.Varint.{unzigzag};
@@ -26,14 +28,14 @@ const ROWS: usize = 17;
 const SHORT_ROW: usize = 10;
 
 // The first id and the first timestamp.
-#[derive(Drop)]
+#[derive(Clone, Copy)]
 struct Base {
     pub id: SeriesId,
     pub time: Timestamp,
 }
 
 // A row's id, time and value, and the place after it.
-#[derive(Drop)]
+#[derive(Clone, Copy)]
 enum RowRead {
     Got {
         id: SeriesId,
@@ -45,7 +47,7 @@ enum RowRead {
 }
 
 // A row's id and time, and the place after its head.
-#[derive(Drop)]
+#[derive(Clone, Copy)]
 pub enum HeadRead {
     Got {
         id: SeriesId,

@@ -1,5 +1,7 @@
 // Fills a caller's list of samples from a samples body (FORMAT 11.5). The whole body is checked
 // first; then its rows are decoded one after the other, each straight into its place in the list.
+#![tactic(auto)]
+
 ghost use Rattle.std.specs.Prelude.{◌≡◌, ◌≤◌, length};
 ghost use Rattle.body_format.specs.Reading.{check_fields};
 ghost use Rattle.body_samples.specs.Filling.{samples_in, fill_answer, fill_number, fill_value, list_after};
@@ -12,7 +14,7 @@ use body_format::{
 use wal_types::{Offset, Refusal, SeriesId, Timestamp};
 
 // An id, a time and the value's 64 bits.
-#[derive(Drop)]
+#[derive(Clone, Copy)]
 pub struct Sample {
     pub id: SeriesId,
     pub time: Timestamp,
@@ -20,21 +22,21 @@ pub struct Sample {
 }
 
 // What filling a list answers: the number of samples now at its front, or the refusal.
-#[derive(Drop)]
+#[derive(Clone, Copy)]
 pub enum FillAnswer {
     Filled(usize),
     Refused(Refusal),
 }
 
 // An answer, and the number of rows to be filled: none if it is a refusal.
-#[derive(Drop)]
+#[derive(Clone, Copy)]
 struct Plan {
     answer: FillAnswer,
     count: usize,
 }
 
 // A row's sample, and the place after the row.
-#[derive(Drop)]
+#[derive(Clone, Copy)]
 struct Row {
     sample: Sample,
     next: usize,

@@ -1,5 +1,7 @@
 // Copies bytes from one slice to another. The specs also say what a slice holds after bytes are
 // stored in it, for every crate that stores some.
+#![tactic(auto)]
+
 ghost use Rattle.std.specs.Prelude.{◌≡◌, ◌+◌, ◌-◌, ◌*◌, ◌/◌, ◌%◌, ◌≤◌, ◌<◌, length, take, drop};
 ghost use Rattle.std.proofs.lemmas.List.Edits.{sets};
 ghost use Rattle.byte_copy.specs.Copied.{copied};

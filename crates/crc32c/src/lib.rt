@@ -1,6 +1,8 @@
 // CRC-32C (Castagnoli, FORMAT 3). Short data goes eight bytes at a time: by rows of constants in
 // read-only memory, or by a table that the caller fills once. Long data is folded by two sparse
 // multiples of the polynomial, one after the other, which needs neither.
+#![tactic(auto)]
+
 ghost use Rattle.std.specs.Prelude.{◌≡◌, [], ◌∷◌, ◌+◌, ◌-◌, ◌*◌, ◌/◌, ◌%◌, ◌<◌, ◌≤◌, min, length, take, drop};
 ghost use Rattle.std.specs.Int.Bits.{bit_xor};
 ghost use Rattle.crc32c_format.specs.Crc.{bit_steps, register, crc32c};

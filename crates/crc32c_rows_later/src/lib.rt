@@ -1,4 +1,6 @@
 // Made by tools/rows, which says how and why; the gate makes it anew and compares.
+#![tactic(auto)]
+
 ghost use Rattle.std.specs.Prelude.{◌≡◌};
 ghost use Rattle.std.specs.Int.Bits.{bit_xor};
 ghost use Rattle.crc32c_format.specs.Crc.{bit_steps};

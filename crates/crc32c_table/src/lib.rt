@@ -1,4 +1,6 @@
 // Fills the table that a caller keeps for the checksum of short data (crate `crc32c`).
+#![tactic(auto)]
+
 ghost use Rattle.std.specs.Prelude.{◌≡◌, length};
 ghost use Rattle.crc32c_format.specs.Crc.{bit_step, bit_steps};
 ghost use Rattle.crc32c_format.specs.Table.{slice_table};

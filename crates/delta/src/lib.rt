@@ -1,6 +1,8 @@
 // A delta of a row (FORMAT 9.3) is 64 bits, added modulo 2^64, and is written as the signed number
 // that these bits are (FORMAT 8.3). Here are its bits as the zigzag of that number and back; the
 // number itself is never needed.
+#![tactic(auto)]
+
 ghost use Rattle.std.specs.Prelude.{◌≡◌};
 ghost use Rattle.varint.specs.Varint.{zigzag, unzigzag};
 ghost use Rattle.wal_types.specs.Deltas.{to_bits, int_from_bits};

@@ -1,6 +1,8 @@
 // The C calls that build and read record bodies; include/depot_wal.h describes them for C. A slice
 // passes as a pointer and a length, a fixed array as a pointer, a body's state as its tag and the
 // bytes used. No crate calls these; tools/archive joins them with those of depot_wal_segments.
+#![tactic(auto)]
+
 ghost use Rattle.std.specs.Prelude.{◌≡◌};
 ghost use Rattle.body_format.specs.Reading.{check_body, read_entry, read_string, read_histogram, read_span, read_bucket};
 ghost use Rattle.body_format.specs.Calls.{starter, builder, add_series, add_sample, add_tombstone, add_exemplar, add_metadata};

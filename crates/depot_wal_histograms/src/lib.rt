@@ -3,6 +3,8 @@
 // used. A bucket is its 64 bits, a signed number's in two's complement. Slices by their first
 // letters: p the positive side, m the negative; o offsets, l lengths, b buckets. No crate calls
 // these; tools/archive joins them with those of depot_wal_bodies.
+#![tactic(auto)]
+
 ghost use Rattle.std.specs.Prelude.{◌≡◌};
 ghost use Rattle.body_format.specs.declared.BucketKind.TheVariants.{Whole, Float};
 ghost use Rattle.body_format.specs.Calls.{builder};

@@ -1,5 +1,7 @@
 // The C calls about an index beside a segment. include/depot_wal.h says the same for C. tools/archive
 // joins them with the other calls.
+#![tactic(auto)]
+
 ghost use Rattle.std.specs.Prelude.{◌≡◌};
 ghost use Rattle.wal_types.specs.Versions.{version_of};
 ghost use Rattle.index_format.specs.Calls.{look_up};

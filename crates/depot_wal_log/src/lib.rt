@@ -1,5 +1,7 @@
 // The C calls that replay a log. include/depot_wal.h says the same for C. tools/archive joins them
 // with the other calls.
+#![tactic(auto)]
+
 ghost use Rattle.std.specs.Prelude.{◌≡◌};
 ghost use Rattle.wal_types.specs.Versions.{version_of};
 ghost use Rattle.log_format.specs.declared.Mode.TheVariants.{Default, Strict};

@@ -1,5 +1,7 @@
 // The C calls about the name of a segment. include/depot_wal.h says the same for C. tools/archive
 // joins them with the other calls.
+#![tactic(auto)]
+
 ghost use Rattle.std.specs.Prelude.{◌≡◌};
 ghost use Rattle.name_format.specs.Names.{parse_name};
 ghost use Rattle.name_format.specs.Calls.{make_name};

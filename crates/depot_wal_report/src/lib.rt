@@ -1,5 +1,7 @@
 // The C call that adds a segment to a report. include/depot_wal.h says the same for C. tools/archive
 // joins it with the other calls.
+#![tactic(auto)]
+
 ghost use Rattle.std.specs.Prelude.{◌≡◌, [], ◌∷◌};
 ghost use Rattle.wal_types.specs.Versions.{version_of};
 ghost use Rattle.segment_format.specs.Sums.{version_sum};

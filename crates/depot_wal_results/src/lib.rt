@@ -1,5 +1,7 @@
 // The answers of the calls as numbers, for C: each function stores an answer's values in `out`, and
 // returns what the call returns.
+#![tactic(auto)]
+
 pub mod histograms;
 
 ghost use Rattle.std.specs.Prelude.{◌≡◌};

@@ -1,5 +1,7 @@
 // The C call that goes on after a power cut. include/depot_wal.h says the same for C. tools/archive
 // joins it with the other calls.
+#![tactic(auto)]
+
 ghost use Rattle.std.specs.Prelude.{◌≡◌};
 ghost use Rattle.wal_types.specs.Versions.{version_of};
 ghost use Rattle.depot_wal_resume.specs.Results.{resumer_for, resume_code, resume_out};

@@ -1,5 +1,7 @@
 // The C call that tells how many pages a list of records needs. include/depot_wal.h says the same
 // for C. tools/archive joins it with the other calls.
+#![tactic(auto)]
+
 ghost use Rattle.std.specs.Prelude.{◌≡◌};
 ghost use Rattle.size_format.specs.Size.{pages_for};
 ghost use Rattle.depot_wal_size.specs.Results.{pages_code, pages_out};

@@ -1,1 +1,3 @@
 // No code: the worked examples of the format, proved as one table (specs/Examples.antt).
+#![tactic(auto)]
+

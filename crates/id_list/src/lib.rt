@@ -3,6 +3,8 @@
 // below it; whatever is in the table, no answer depends on it. In a list that ascends an id and its
 // neighbours tell whether it is there, so that the hint mostly decides; any other list is searched
 // for each id that the hint does not show.
+#![tactic(auto)]
+
 ghost use Rattle.std.specs.Prelude.{◌≡◌, true, ◌≤◌, ◌<◌, length, get_or};
 ghost use Rattle.checkpoint_format.specs.Keeping.{is_listed};
 ghost use Rattle.id_list.specs.Ascending.{is_ascending};

@@ -1,5 +1,7 @@
 // Small functions on numbers that several crates need. A byte is widened by a function because
 // `b[i] as u64` would owe a proof at each use that the byte fits.
+#![tactic(auto)]
+
 ghost use Rattle.std.specs.Prelude.{◌≡◌, ◌<◌, min};
 
 // The smaller of two numbers.

@@ -1,6 +1,8 @@
 // Words of an output line, on standard output. No contract can say what is written: each says that
 // nothing is handed back and nothing of the caller's changes. What they print is tested through the
 // programs that call them.
+#![tactic(auto)]
+
 ghost use Rattle.std.specs.Prelude.{◌≡◌};
 
 use numbers::wide64;

@@ -1,4 +1,6 @@
 // Reports on the segments that its arguments name (FORMAT 22.10).
+#![tactic(auto)]
+
 fn main() {
     reporting::report();
 }

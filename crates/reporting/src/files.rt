@@ -15,7 +15,7 @@ pub(crate) const UNREAD: u32 = 30;
 
 // What a file was read to be: a segment, with its answer; or that it adds nothing, and the number that
 // says so.
-#[derive(Drop)]
+#[derive(Clone, Copy)]
 pub(crate) enum Taken {
     Segment { number: u32, place: u64 },
     Nothing(u32),

@@ -1,6 +1,8 @@
 // The report program (FORMAT 22.10): the segments that its arguments name, and the report over them on
 // standard output. No contract can say what is read and written; the comparison with the second
 // program tests it. What is added, and every answer, are those of `log_report`.
+#![tactic(auto)]
+
 mod files;
 mod lines;
 mod names;

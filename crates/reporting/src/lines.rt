@@ -6,7 +6,7 @@ ghost use Rattle.reporting.specs.Choices.{was_good, all_nan, shown};
 use report_format::{Reported, SERIES_LIMIT};
 
 // A series as it is printed: the extremes by their bits.
-#[derive(Drop)]
+#[derive(Clone, Copy)]
 struct Shown {
     id: u64,
     rows: u64,

@@ -13,6 +13,8 @@
 //     refused NUMBER PLACE good RECORDS OFFSET
 // All numbers are decimal, with one space before each. After the first read that gives no record
 // the others answer the same.
+#![tactic(auto)]
+
 mod lines;
 
 use segment_cursor::Spot;

@@ -10,7 +10,7 @@ use numbers::wide;
 pub(crate) const SEGMENT_MAX: usize = 131072;
 
 // How many bytes, or how many times a byte.
-#[derive(Drop)]
+#[derive(Clone, Copy)]
 pub(crate) enum Count {
     Of(usize),
     Malformed,

@@ -1,6 +1,8 @@
 // Reads every segment of the table of named damage from the start, and prints its case with the
 // answer of this library. The table is tests/damage.txt, whose head gives its form; what this has
 // to print is the table without its comments.
+#![tactic(auto)]
+
 mod items;
 mod search;
 

@@ -6,7 +6,7 @@ use body_samples::{FillAnswer, Sample};
 use wal_types::{SeriesId, Timestamp};
 
 // What filling answered, and the list afterwards.
-#[derive(Drop)]
+#[derive(Clone, Copy)]
 pub(crate) struct Filled {
     pub(crate) answer: FillAnswer,
     pub(crate) list: [Sample; 4],

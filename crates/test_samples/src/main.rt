@@ -8,6 +8,8 @@
 // where LENGTH is the body's length in bytes, and then a line for each of the four samples:
 //     sample ID TIME BITS
 // All numbers are decimal.
+#![tactic(auto)]
+
 mod lines;
 mod list;
 

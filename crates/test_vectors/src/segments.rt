@@ -136,7 +136,7 @@ fn write(slice: &mut [u8], place: usize, count: usize) {
 
 // ---- the headers of a record
 
-#[derive(Drop)]
+#[derive(Clone, Copy)]
 struct Header {
     kind: u8,
     count: usize,

@@ -2,13 +2,15 @@
 //
 // No public function has a `requires`. A place is an index into the slice. A put that does not fit
 // changes no byte and returns the place given; otherwise it returns the place after its last byte.
+#![tactic(auto)]
+
 ghost use Rattle.std.specs.Prelude.{◌≡◌, ◌+◌, ◌≤◌, length, drop};
 ghost use Rattle.std.proofs.lemmas.List.Edits.{sets};
 ghost use Rattle.byte_copy.specs.Put.{put_at, put_end};
 ghost use Rattle.uvarint.specs.Uvarint.{uvarint, read_uvarint};
 
 // What decoding a uvarint finds. The place of an error is the one given, the field's first byte.
-#[derive(Drop)]
+#[derive(Clone, Copy)]
 pub enum UvarintRead {
     // The number, and how many bytes it takes.
     Value { n: u64, len: usize },

@@ -1,5 +1,7 @@
 // Signed varints (FORMAT 8.3): the zigzag of an i64 and back, and the uvarint of the zigzag. Places
 // and puts are as in `uvarint`.
+#![tactic(auto)]
+
 ghost use Rattle.std.specs.Prelude.{◌≡◌, ◌≤◌, length, drop};
 ghost use Rattle.byte_copy.specs.Put.{put_at, put_end};
 ghost use Rattle.varint.specs.Varint.{zigzag, unzigzag, varint, read_varint};
@@ -7,7 +9,7 @@ ghost use Rattle.varint.specs.Varint.{zigzag, unzigzag, varint, read_varint};
 use uvarint::{UvarintRead, get_uvarint, put_uvarint, uvarint_len};
 
 // What decoding a signed varint finds, as for a uvarint.
-#[derive(Drop)]
+#[derive(Clone, Copy)]
 pub enum VarintRead {
     Value { x: i64, len: usize },
     Short,
