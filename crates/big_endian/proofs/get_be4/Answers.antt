@@ -7,12 +7,12 @@ use Rattle.big_endian.specs.FixedLaws.{whole4, short4}
 use Rattle.big_endian.proofs.get_be4.Goals as goal
 
 pub returns-then-buf-at : goal.returns-then-buf-at
-returns-then-buf-at c = (sym (short4 _ (rw length-drop (omega arith))), omega arith)
+returns-then-buf-at c = record { value = sym (short4 _ (rw length-drop (omega arith))); upper_bound = omega arith }
 
 pub returns-then-buf-at-lt4 : goal.returns-then-buf-at-lt4
-returns-then-buf-at-lt4 c = (sym (short4 _ (rw length-drop (omega arith))), omega arith)
+returns-then-buf-at-lt4 c = record { value = sym (short4 _ (rw length-drop (omega arith))); upper_bound = omega arith }
 
 pub returns : goal.returns
 returns c =
     let v = c.read_half.ensures in
-    (v.0 ∙ sym (whole4 _ (rw length-drop (omega arith))), v.1)
+    record { value = v.0 ∙ sym (whole4 _ (rw length-drop (omega arith))); upper_bound = v.1 }

@@ -18,7 +18,7 @@ returns-then-buf-at-lt8 c = sym (read_short _ (rw length-drop (omega arith)))
 pub returns : goal.returns
 returns c =
     let a = c.args in
-    let h = c.read_half-high.ensures.0 in
-    let l = c.read_half-low.ensures.0 in
+    let h = c.read_half-high.ensures.value in
+    let l = c.read_half-low.ensures.value in
     ap₂ (λ (x y : ℕ). x * 2 ^ 32 + y) h (l ∙ ap read_be4 (sym (drop-drop 4 a.at a.buf.now)))
     ∙ sym (read_whole (drop a.at a.buf.now) (rw length-drop (omega arith)))

@@ -19,13 +19,12 @@ unfolding be4
 put_four d e at end x h p q = (omega (arith, end_fits d at (be4 x) h), q ∙ sym (put-fits d at (be4 x) h))
 
 pub returns-then-buf-at : goal.returns-then-buf-at
-returns-then-buf-at c = (sym (end_not _ _ _ (omega arith)), sym (put_not _ _ _ (omega arith)))
+returns-then-buf-at c = record { value = sym (end_not _ _ _ (omega arith)); buf_after = sym (put_not _ _ _ (omega arith)) }
 
 pub returns-then-buf-at-lt4 : goal.returns-then-buf-at-lt4
-returns-then-buf-at-lt4 c = (sym (end_not _ _ _ (rw length-be4 (omega arith))), sym (put_not _ _ _ (rw length-be4 (omega arith))))
+returns-then-buf-at-lt4 c = record { value = sym (end_not _ _ _ (rw length-be4 (omega arith))); buf_after = sym (put_not _ _ _ (rw length-be4 (omega arith))) }
 
 pub returns : goal.returns
 returns c =
     let a = c.args in
-    let v = c.write_half.ensures in
-    put_four a.buf.now _ a.at _ a.x (omega arith) v.0 v.1
+    let v = c.write_half.ensures in let both = put_four a.buf.now _ a.at _ a.x (omega arith) v.0 v.1 in record { value = both.0; buf_after = both.1 }

@@ -27,14 +27,13 @@ put-halves d e f at middle end x h p q r s = (
 )
 
 pub returns-then-buf-at : goal.returns-then-buf-at
-returns-then-buf-at c = (sym (end_not _ _ _ (omega arith)), sym (put_not _ _ _ (omega arith)))
+returns-then-buf-at c = record { value = sym (end_not _ _ _ (omega arith)); buf_after = sym (put_not _ _ _ (omega arith)) }
 
 pub returns-then-buf-at-lt8 : goal.returns-then-buf-at-lt8
-returns-then-buf-at-lt8 c = (sym (end_not _ _ _ (rw length-be8 (omega arith))), sym (put_not _ _ _ (rw length-be8 (omega arith))))
+returns-then-buf-at-lt8 c = record { value = sym (end_not _ _ _ (rw length-be8 (omega arith))); buf_after = sym (put_not _ _ _ (rw length-be8 (omega arith))) }
 
 pub returns : goal.returns
 returns c =
     let a = c.args in
     let v = c.write_half-middle.ensures in
-    let w = c.write_half.ensures in
-    put-halves a.buf.now _ _ a.at _ _ a.x (omega arith) v.0 v.1 w.0 w.1
+    let w = c.write_half.ensures in let both = put-halves a.buf.now _ _ a.at _ _ a.x (omega arith) v.0 v.1 w.0 w.1 in record { value = both.0; buf_after = both.1 }

@@ -48,4 +48,4 @@ pub overflow_add-result-3 : goal.overflow_add-result-3
 overflow_add-result-3 c = omega (arith, bytes (goal.at.overflow_add-result-3 c).After-shared_slice_known-4-1)
 
 pub returns : goal.returns
-returns c = (sym (read-be4-at c.args.buf.now _), omega (arith, bytes (goal.at.returns c).After-shared_slice_known-4-1))
+returns c = record { value = sym (read-be4-at c.args.buf.now _); upper_bound = omega (arith, bytes (goal.at.returns c).After-shared_slice_known-4-1) }

@@ -18,4 +18,4 @@ bounds-buf-fourth c = simp length-set (omega arith)
 
 pub returns : goal.returns
 unfolding be4
-returns c = (refl, simp towards_suc)
+returns c = record { value = refl; buf_after = simp towards_suc }

@@ -65,7 +65,7 @@ put_histogram-next-requires c =
 
 pub returns-in-Open : goal.returns-in-Open
 unfolding entry_bytes
-returns-in-Open c = finished _ _ _ ((histogram_entry c.args.kind (histogram_of c.args.id.0 c.args.time.0 c.args.numbers ((lent s.args.po.now s.args.pl.now s.args.mo.now s.args.ml.now s.args.pb.now s.args.mb.now))))) ((bad_spans ((lent s.args.po.now s.args.pl.now s.args.mo.now s.args.ml.now s.args.pb.now s.args.mb.now)).spans.positive || bad_spans ((lent s.args.po.now s.args.pl.now s.args.mo.now s.args.ml.now s.args.pb.now s.args.mb.now)).spans.negative)) _ _ (admitted (goal.at.returns-in-Open c).In-Open) c.put_histogram-next.ensures
+returns-in-Open c = let both = finished _ _ _ ((histogram_entry c.args.kind (histogram_of c.args.id.0 c.args.time.0 c.args.numbers ((lent s.args.po.now s.args.pl.now s.args.mo.now s.args.ml.now s.args.pb.now s.args.mb.now))))) ((bad_spans ((lent s.args.po.now s.args.pl.now s.args.mo.now s.args.ml.now s.args.pb.now s.args.mb.now)).spans.positive || bad_spans ((lent s.args.po.now s.args.pl.now s.args.mo.now s.args.ml.now s.args.pb.now s.args.mb.now)).spans.negative)) _ _ (admitted (goal.at.returns-in-Open c).In-Open) c.put_histogram-next.ensures in record { answer = both.0; bytes = both.1 }
 
 pub returns-in-Shut : goal.returns-in-Shut
-returns-in-Shut c = shut _ _ _ ((histogram_entry c.args.kind (histogram_of c.args.id.0 c.args.time.0 c.args.numbers ((lent s.args.po.now s.args.pl.now s.args.mo.now s.args.ml.now s.args.pb.now s.args.mb.now))))) ((bad_spans ((lent s.args.po.now s.args.pl.now s.args.mo.now s.args.ml.now s.args.pb.now s.args.mb.now)).spans.positive || bad_spans ((lent s.args.po.now s.args.pl.now s.args.mo.now s.args.ml.now s.args.pb.now s.args.mb.now)).spans.negative)) _ (sized (goal.at.returns-in-Shut c).After-lists_size-lists) _ (gate (goal.at.returns-in-Shut c).After-admit) c.in-Shut.is
+returns-in-Shut c = let both = shut _ _ _ ((histogram_entry c.args.kind (histogram_of c.args.id.0 c.args.time.0 c.args.numbers ((lent s.args.po.now s.args.pl.now s.args.mo.now s.args.ml.now s.args.pb.now s.args.mb.now))))) ((bad_spans ((lent s.args.po.now s.args.pl.now s.args.mo.now s.args.ml.now s.args.pb.now s.args.mb.now)).spans.positive || bad_spans ((lent s.args.po.now s.args.pl.now s.args.mo.now s.args.ml.now s.args.pb.now s.args.mb.now)).spans.negative)) _ (sized (goal.at.returns-in-Shut c).After-lists_size-lists) _ (gate (goal.at.returns-in-Shut c).After-admit) c.in-Shut.is in record { answer = both.0; bytes = both.1 }

@@ -24,5 +24,4 @@ put_lists-requires c =
 
 pub returns : goal.returns
 returns c =
-    let s = c in
-    histogram-laid s.args.buffer.now s.args.at s.args.kind ((histogram_of s.args.id.0 s.args.time.0 s.args.numbers (lent s.args.po.now s.args.pl.now s.args.mo.now s.args.ml.now s.args.pb.now s.args.mb.now))) s.requires.3 _ _ c.put_head-second.ensures _ _ c.put_numbers-third.ensures _ _ c.put_lists.ensures
+    let s = c in let both = histogram-laid s.args.buffer.now s.args.at s.args.kind ((histogram_of s.args.id.0 s.args.time.0 s.args.numbers (lent s.args.po.now s.args.pl.now s.args.mo.now s.args.ml.now s.args.pb.now s.args.mb.now))) s.requires.3 _ _ c.put_head-second.ensures _ _ c.put_numbers-third.ensures _ _ c.put_lists.ensures in record { value = both.0; buffer_after = both.1 }

@@ -25,7 +25,7 @@ asked c =
       shape = refl;
       want_is = refl;
       bad_is = l.0;
-      size_is = λ good. omega (arith, l.1 good, c.uvarint_len-head.ensures.0, length-append (uvarint a.id.0) (a.metric ∷ list_from a.count a.from.now a.first.0));
+      size_is = λ good. omega (arith, l.1 good, c.uvarint_len-head.ensures.value, length-append (uvarint a.id.0) (a.metric ∷ list_from a.count a.from.now a.first.0));
       gate = c.admit.ensures;
     }
 
@@ -33,7 +33,7 @@ pub put_metadata-next-requires : goal.put_metadata-next-requires
 put_metadata-next-requires c = open-room _ _ _ _ _ _ _ _ _ _ _ _ (asked (goal.at.put_metadata-next-requires c).After-admit) c.in-Open.is
 
 pub returns-in-Open : goal.returns-in-Open
-returns-in-Open c = open_done _ _ _ _ _ _ _ _ _ _ _ _ (asked (goal.at.returns-in-Open c).After-admit) c.in-Open.is _ _ c.put_metadata-next.ensures
+returns-in-Open c = let both = open_done _ _ _ _ _ _ _ _ _ _ _ _ (asked (goal.at.returns-in-Open c).After-admit) c.in-Open.is _ _ c.put_metadata-next.ensures in record { answer = both.0; bytes = both.1 }
 
 pub returns-in-Shut : goal.returns-in-Shut
-returns-in-Shut c = shut_done _ _ _ _ _ _ _ _ _ _ _ _ (asked (goal.at.returns-in-Shut c).After-admit) c.in-Shut.is
+returns-in-Shut c = let both = shut_done _ _ _ _ _ _ _ _ _ _ _ _ (asked (goal.at.returns-in-Shut c).After-admit) c.in-Shut.is in record { answer = both.0; bytes = both.1 }

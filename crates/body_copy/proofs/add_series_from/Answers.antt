@@ -34,7 +34,7 @@ pub put_series-next-requires : goal.put_series-next-requires
 put_series-next-requires c = open-room _ _ _ _ _ _ _ _ _ _ _ _ (asked (goal.at.put_series-next-requires c).After-admit) c.in-Open.is
 
 pub returns-in-Open : goal.returns-in-Open
-returns-in-Open c = open_done _ _ _ _ _ _ _ _ _ _ _ _ (asked (goal.at.returns-in-Open c).After-admit) c.in-Open.is _ _ c.put_series-next.ensures
+returns-in-Open c = let both = open_done _ _ _ _ _ _ _ _ _ _ _ _ (asked (goal.at.returns-in-Open c).After-admit) c.in-Open.is _ _ c.put_series-next.ensures in record { answer = both.0; bytes = both.1 }
 
 pub returns-in-Shut : goal.returns-in-Shut
-returns-in-Shut c = shut_done _ _ _ _ _ _ _ _ _ _ _ _ (asked (goal.at.returns-in-Shut c).After-admit) c.in-Shut.is
+returns-in-Shut c = let both = shut_done _ _ _ _ _ _ _ _ _ _ _ _ (asked (goal.at.returns-in-Shut c).After-admit) c.in-Shut.is in record { answer = both.0; bytes = both.1 }

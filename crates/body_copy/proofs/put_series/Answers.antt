@@ -11,7 +11,7 @@ use Rattle.body_copy.proofs.put_series.Goals.{After-put_be8-list}
 first : (c : After-put_be8-list) →
     let a = c.args in
     Put a.buffer.now a.at (be8 a.id.0) c.put_be8-list.new.buf c.put_be8-list.result
-first c = put_first _ _ _ _ _ ((list_from c.args.count c.args.from.now c.args.first)) c.requires c.put_be8-list.ensures.0 c.put_be8-list.ensures.1
+first c = put_first _ _ _ _ _ ((list_from c.args.count c.args.from.now c.args.first)) c.requires c.put_be8-list.ensures.value c.put_be8-list.ensures.buf_after
 
 pub put_list-requires : goal.put_list-requires
 put_list-requires c = room_then _ _ _ _ (be8 c.args.id.0) ((list_from c.args.count c.args.from.now c.args.first)) c.requires (first (goal.at.put_list-requires c).After-put_be8-list)

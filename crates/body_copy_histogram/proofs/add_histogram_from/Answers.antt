@@ -10,10 +10,10 @@ returns-in-Found c =
     let s = c in
     let t = taken s.args.buffer.now s.args.body.tag s.args.body.used.0 s.args.kind s.args.from.now _ _ _ c.histogram_entry.ensures c.in-Found.is in
     let w = c.add_view.ensures t.entry t.tag t.bytes in
-    (w.0 ∙ ap (added_of s.args.body.tag) (sym t.outcome), w.1 ∙ sym t.buffer)
+    record { answer = w.0 ∙ ap (added_of s.args.body.tag) (sym t.outcome); bytes = w.1 ∙ sym t.buffer }
 
 pub returns-in-End : goal.returns-in-End
-returns-in-End c = not_there _ _ _ _ _ _ _ c.histogram_entry.ensures c.in-End.is
+returns-in-End c = let both = not_there _ _ _ _ _ _ _ c.histogram_entry.ensures c.in-End.is in record { answer = both.0; bytes = both.1 }
 
 pub returns-in-Refused : goal.returns-in-Refused
-returns-in-Refused c = not_read _ _ _ _ _ _ _ _ c.histogram_entry.ensures c.in-Refused.is
+returns-in-Refused c = let both = not_read _ _ _ _ _ _ _ _ c.histogram_entry.ensures c.in-Refused.is in record { answer = both.0; bytes = both.1 }

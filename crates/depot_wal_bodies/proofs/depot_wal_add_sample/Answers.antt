@@ -9,6 +9,6 @@ use Rattle.depot_wal_bodies.proofs.depot_wal_add_sample.Goals as goal
 pub returns : goal.returns
 returns c =
     let told = c.build_result.ensures in
-    let answer = rw (to_z-of_z {w = w64} c.ranges.time) at c.add_sample-answer.ensures.0 in
-    let bytes = rw (to_z-of_z {w = w64} c.ranges.time) at c.add_sample-answer.ensures.1 in
+    let answer = rw (to_z-of_z {w = w64} c.ranges.time) at c.add_sample-answer.ensures.answer in
+    let bytes = rw (to_z-of_z {w = w64} c.ranges.time) at c.add_sample-answer.ensures.bytes in
     (told.0 ∙ ap added_code answer, told.1 ∙ ap (added_out c.args.used) answer, bytes)

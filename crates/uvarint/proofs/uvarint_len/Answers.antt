@@ -11,10 +11,10 @@ bounds : (b : ℕ) → b ≤ 64 → (1 ≤ (b * 9 + 64) / 64) × ((b * 9 + 64) /
 bounds b h = (omega arith, omega arith)
 
 pub returns-then-n-lt128 : goal.returns-then-n-lt128
-returns-then-n-lt128 c = (sym (length-one _ c.if-n-lt128.true), omega arith)
+returns-then-n-lt128 c = record { value = sym (length-one _ c.if-n-lt128.true); lower_bound = omega arith }
 
 pub overflow_sub-bits : goal.overflow_sub-bits
 overflow_sub-bits c = leading_le 64 c.args.n
 
 pub returns : goal.returns
-returns c = (sym (length-bits c.args.n (omega arith) c.ranges.n.fits), bounds (64 - count_leading_zeros 64 c.args.n) (omega arith))
+returns c = record { value = sym (length-bits c.args.n (omega arith) c.ranges.n.fits); lower_bound = bounds (64 - count_leading_zeros 64 c.args.n) (omega arith) }

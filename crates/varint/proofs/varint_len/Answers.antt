@@ -12,4 +12,4 @@ pub returns : goal.returns
 unfolding varint
 returns c =
     let z = c.zigzag_of.ensures ∙ ap zigzag (to_z-of_z c.ranges.x) in
-    (c.uvarint_len.ensures.0 ∙ ap (λ (n : ℕ). length (uvarint n)) z, c.uvarint_len.ensures.1)
+    record { value = c.uvarint_len.ensures.value ∙ ap (λ (n : ℕ). length (uvarint n)) z; lower_bound = c.uvarint_len.ensures.lower_bound }

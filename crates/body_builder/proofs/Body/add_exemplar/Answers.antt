@@ -62,9 +62,8 @@ put_list-next-requires c = (good-sum _ _ (admitted (goal.at.put_list-next-requir
 
 pub returns-in-Open : goal.returns-in-Open
 unfolding entry_bytes
-returns-in-Open c =
-    finished _ _ _ ((exemplar_entry c.args.id.0 c.args.time.0 c.args.bits (cut_strings c.args.strings.now c.args.lengths.now))) ((bad_list c.args.strings.now c.args.lengths.now)) _ _ (admitted (goal.at.returns-in-Open c).In-Open)
-    (put_then _ _ _ _ ((row_bytes c.args.buffer.now c.args.self.used.0 c.args.id.0 (to_bits c.args.time.0) c.args.bits)) ((string_list_bytes (cut_strings c.args.strings.now c.args.lengths.now))) (room (goal.at.returns-in-Open c).In-Open) _ _ c.put_row-labels.ensures c.put_list-next.ensures)
+returns-in-Open c = let both = finished _ _ _ ((exemplar_entry c.args.id.0 c.args.time.0 c.args.bits (cut_strings c.args.strings.now c.args.lengths.now))) ((bad_list c.args.strings.now c.args.lengths.now)) _ _ (admitted (goal.at.returns-in-Open c).In-Open)
+    (put_then _ _ _ _ ((row_bytes c.args.buffer.now c.args.self.used.0 c.args.id.0 (to_bits c.args.time.0) c.args.bits)) ((string_list_bytes (cut_strings c.args.strings.now c.args.lengths.now))) (room (goal.at.returns-in-Open c).In-Open) _ _ c.put_row-labels.ensures c.put_list-next.ensures) in record { answer = both.0; bytes = both.1 }
 
 pub returns-in-Shut : goal.returns-in-Shut
-returns-in-Shut c = shut _ _ _ ((exemplar_entry c.args.id.0 c.args.time.0 c.args.bits (cut_strings c.args.strings.now c.args.lengths.now))) ((bad_list c.args.strings.now c.args.lengths.now)) _ (sized (goal.at.returns-in-Shut c).After-row_size) _ (gate (goal.at.returns-in-Shut c).After-admit) c.in-Shut.is
+returns-in-Shut c = let both = shut _ _ _ ((exemplar_entry c.args.id.0 c.args.time.0 c.args.bits (cut_strings c.args.strings.now c.args.lengths.now))) ((bad_list c.args.strings.now c.args.lengths.now)) _ (sized (goal.at.returns-in-Shut c).After-row_size) _ (gate (goal.at.returns-in-Shut c).After-admit) c.in-Shut.is in record { answer = both.0; bytes = both.1 }

@@ -38,7 +38,7 @@ put_row-next-requires c = (zigzagged (goal.at.put_row-next-requires c).After-zig
 
 pub returns-in-Open : goal.returns-in-Open
 unfolding entry_bytes
-returns-in-Open c = finished _ _ _ ((sample_entry c.args.id.0 c.args.time.0 c.args.bits)) false _ _ (admitted (goal.at.returns-in-Open c).In-Open) c.put_row-next.ensures
+returns-in-Open c = let both = finished _ _ _ ((sample_entry c.args.id.0 c.args.time.0 c.args.bits)) false _ _ (admitted (goal.at.returns-in-Open c).In-Open) c.put_row-next.ensures in record { answer = both.0; bytes = both.1 }
 
 pub returns-in-Shut : goal.returns-in-Shut
-returns-in-Shut c = shut _ _ _ ((sample_entry c.args.id.0 c.args.time.0 c.args.bits)) false _ (sized (goal.at.returns-in-Shut c).After-row_size-size) _ c.admit.ensures c.in-Shut.is
+returns-in-Shut c = let both = shut _ _ _ ((sample_entry c.args.id.0 c.args.time.0 c.args.bits)) false _ (sized (goal.at.returns-in-Shut c).After-row_size-size) _ c.admit.ensures c.in-Shut.is in record { answer = both.0; bytes = both.1 }

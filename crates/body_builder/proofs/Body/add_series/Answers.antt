@@ -36,7 +36,7 @@ pub put_series-next-requires : goal.put_series-next-requires
 put_series-next-requires c = (good-sum _ _ (admitted (goal.at.put_series-next-requires c).In-Open).list, (admitted (goal.at.put_series-next-requires c).In-Open).room)
 
 pub returns-in-Open : goal.returns-in-Open
-returns-in-Open c = finished _ _ _ ((series_entry c.args.id.0 (cut_strings c.args.strings.now c.args.lengths.now))) ((bad_list c.args.strings.now c.args.lengths.now)) _ _ (admitted (goal.at.returns-in-Open c).In-Open) c.put_series-next.ensures
+returns-in-Open c = let both = finished _ _ _ ((series_entry c.args.id.0 (cut_strings c.args.strings.now c.args.lengths.now))) ((bad_list c.args.strings.now c.args.lengths.now)) _ _ (admitted (goal.at.returns-in-Open c).In-Open) c.put_series-next.ensures in record { answer = both.0; bytes = both.1 }
 
 pub returns-in-Shut : goal.returns-in-Shut
-returns-in-Shut c = shut _ _ _ ((series_entry c.args.id.0 (cut_strings c.args.strings.now c.args.lengths.now))) ((bad_list c.args.strings.now c.args.lengths.now)) _ (sized (goal.at.returns-in-Shut c).After-list_size-list) _ (gate (goal.at.returns-in-Shut c).After-admit) c.in-Shut.is
+returns-in-Shut c = let both = shut _ _ _ ((series_entry c.args.id.0 (cut_strings c.args.strings.now c.args.lengths.now))) ((bad_list c.args.strings.now c.args.lengths.now)) _ (sized (goal.at.returns-in-Shut c).After-list_size-list) _ (gate (goal.at.returns-in-Shut c).After-admit) c.in-Shut.is in record { answer = both.0; bytes = both.1 }

@@ -27,7 +27,7 @@ pub put_tombstone-next-requires : goal.put_tombstone-next-requires
 put_tombstone-next-requires c = (admitted (goal.at.put_tombstone-next-requires c).In-Open).room
 
 pub returns-in-Open : goal.returns-in-Open
-returns-in-Open c = finished _ _ _ ((tombstone_entry c.args.id.0 c.args.min.0 c.args.max.0)) false _ _ (admitted (goal.at.returns-in-Open c).In-Open) c.put_tombstone-next.ensures
+returns-in-Open c = let both = finished _ _ _ ((tombstone_entry c.args.id.0 c.args.min.0 c.args.max.0)) false _ _ (admitted (goal.at.returns-in-Open c).In-Open) c.put_tombstone-next.ensures in record { answer = both.0; bytes = both.1 }
 
 pub returns-in-Shut : goal.returns-in-Shut
-returns-in-Shut c = shut _ _ _ ((tombstone_entry c.args.id.0 c.args.min.0 c.args.max.0)) false _ (sized (goal.at.returns-in-Shut c).After-tombstone_size-size) _ c.admit.ensures c.in-Shut.is
+returns-in-Shut c = let both = shut _ _ _ ((tombstone_entry c.args.id.0 c.args.min.0 c.args.max.0)) false _ (sized (goal.at.returns-in-Shut c).After-tombstone_size-size) _ c.admit.ensures c.in-Shut.is in record { answer = both.0; bytes = both.1 }

@@ -19,14 +19,12 @@ none (known k) h = let z : ◌≡◌ {A = ℕ} 0 1 = cc in absurd (omega arith)
 none unknown h = refl
 
 pub returns-then-not-is_known : goal.returns-then-not-is_known
-returns-then-not-is_known c = rw (start-unknown _ _ (none _ (sym c.is_known.ensures ∙ not_true _ c.if-not-is_known.true))) (refl, refl)
+returns-then-not-is_known c = let both = rw (start-unknown _ _ (none _ (sym c.is_known.ensures ∙ not_true _ c.if-not-is_known.true))) (refl, refl) in record { answer = both.0; bytes = both.1 }
 
 pub returns-then-buffer-eq0 : goal.returns-then-buffer-eq0
 returns-then-buffer-eq0 c =
-    let k = some _ (sym c.is_known.ensures ∙ not_false _ c.if-not-is_known.false) in
-    rw (start_no_room _ _ k.0 k.1 c.if-buffer-eq0.true) (refl, refl)
+    let k = some _ (sym c.is_known.ensures ∙ not_false _ c.if-not-is_known.false) in let both = rw (start_no_room _ _ k.0 k.1 c.if-buffer-eq0.true) (refl, refl) in record { answer = both.0; bytes = both.1 }
 
 pub returns : goal.returns
 returns c =
-    let k = some _ (sym c.is_known.ensures ∙ not_false _ c.if-not-is_known.false) in
-    rw (start-used c.args.buffer.now _ k.0 k.1 (omega arith)) (refl, refl)
+    let k = some _ (sym c.is_known.ensures ∙ not_false _ c.if-not-is_known.false) in let both = rw (start-used c.args.buffer.now _ k.0 k.1 (omega arith)) (refl, refl) in record { answer = both.0; bytes = both.1 }

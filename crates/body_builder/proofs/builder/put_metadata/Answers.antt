@@ -43,4 +43,4 @@ pub shape_of-buffer : goal.shape_of-buffer
 shape_of-buffer c = ap length (whole (goal.at.shape_of-buffer c).After-slice_known-3-1).1 ∙ simp length-sets
 
 pub returns : goal.returns
-returns c = whole (goal.at.returns c).After-slice_known-3-1
+returns c = let both = whole (goal.at.returns c).After-slice_known-3-1 in record { value = both.0; buffer_after = both.1 }

@@ -7,6 +7,6 @@ use Rattle.body_builder.proofs.builder.tombstone_size.Goals as goal
 
 pub returns : goal.returns
 returns c =
-    let p = rw (to_z-of_z {w = w64} (sfits_of c.type_inv.min.0.1)) at c.varint_len-first.ensures.0 in
-    let q = rw (to_z-of_z {w = w64} (sfits_of c.type_inv.max.0.1)) at c.varint_len-second.ensures.0 in
+    let p = rw (to_z-of_z {w = w64} (sfits_of c.type_inv.min.0.1)) at c.varint_len-first.ensures.value in
+    let q = rw (to_z-of_z {w = w64} (sfits_of c.type_inv.max.0.1)) at c.varint_len-second.ensures.value in
     omega (arith, p, q)

@@ -25,12 +25,12 @@ sized c = c.row_size-size.ensures.0 ∙ row_sized _ _ _ _ c.args.bits _ (zigzagg
 pub returns-then-buffer-at : goal.returns-then-buffer-at
 returns-then-buffer-at c =
     let h = c.if-buffer-at.true in
-    (sym (end_not _ _ _ (omega arith)), sym (put_not _ _ _ (omega arith)))
+    record { value = sym (end_not _ _ _ (omega arith)); buffer_after = sym (put_not _ _ _ (omega arith)) }
 
 pub returns-then-buffer-at-2 : goal.returns-then-buffer-at-2
 returns-then-buffer-at-2 c =
     let n = sized (goal.at.returns-then-buffer-at-2 c).After-row_size-size in
-    (sym (end_not _ _ _ (omega (arith, n))), sym (put_not _ _ _ (omega (arith, n))))
+    record { value = sym (end_not _ _ _ (omega (arith, n))); buffer_after = sym (put_not _ _ _ (omega (arith, n))) }
 
 pub put_row-requires : goal.put_row-requires
 put_row-requires c = (zigzagged (goal.at.put_row-requires c).After-zigzags-row, omega (arith, sized (goal.at.put_row-requires c).After-row_size-size))
@@ -39,4 +39,4 @@ pub returns : goal.returns
 returns c =
     let n = sized (goal.at.returns c).After-row_size-size in
     let w = c.put_row.ensures in
-    (w.0 ∙ sym (end_fits _ _ _ (omega (arith, n))), w.1 ∙ sym (put-fits _ _ _ (omega (arith, n))))
+    record { value = w.0 ∙ sym (end_fits _ _ _ (omega (arith, n))); buffer_after = w.1 ∙ sym (put-fits _ _ _ (omega (arith, n))) }

@@ -13,7 +13,7 @@ pub loop-i-init : goal.loop-i-init
 loop-i-init c = (omega arith, omega arith, omega arith)
 
 pub overflow_add-size : goal.overflow_add-size
-overflow_add-size c = omega (arith, c.uvarint_len-head.ensures.1)
+overflow_add-size c = omega (arith, c.uvarint_len-head.ensures.lower_bound)
 
 pub loop-i-preserved : goal.loop-i-preserved
 loop-i-preserved c =

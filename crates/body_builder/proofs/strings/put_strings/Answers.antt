@@ -46,4 +46,4 @@ pub shape_of-buffer : goal.shape_of-buffer
 shape_of-buffer c = c.loop-i.invariant.size
 
 pub returns : goal.returns
-returns c = laid _ _ _ _ _ _ _ _ c.loop-i.invariant c.loop-i-test.false
+returns c = let both = laid _ _ _ _ _ _ _ _ c.loop-i.invariant c.loop-i-test.false in record { value = both.0; buffer_after = both.1 }

@@ -11,5 +11,4 @@ put_buckets-requires c =
 
 pub returns : goal.returns
 returns c =
-    let w = c.put_uvarint-first.ensures in
-    list-laid _ _ _ _ c.requires _ _ _ refl w.0 w.1 _ _ c.put_buckets.ensures
+    let w = c.put_uvarint-first.ensures in let both = list-laid _ _ _ _ c.requires _ _ _ refl w.0 w.1 _ _ c.put_buckets.ensures in record { value = both.0; buffer_after = both.1 }

@@ -20,5 +20,4 @@ put_bucket_list-requires c =
 
 pub returns : goal.returns
 returns c =
-    let s = c in
-    sides-laid (element.Bucket s.args.kind) ((sides s.args.positive.now s.args.negative.now)) s.args.buffer.now _ s.requires _ _ c.put_bucket_list-second.ensures _ _ c.put_bucket_list.ensures
+    let s = c in let both = sides-laid (element.Bucket s.args.kind) ((sides s.args.positive.now s.args.negative.now)) s.args.buffer.now _ s.requires _ _ c.put_bucket_list-second.ensures _ _ c.put_bucket_list.ensures in record { value = both.0; buffer_after = both.1 }

@@ -27,12 +27,12 @@ fits c = omega (arith, c.front_len-size.ensures.0)
 pub returns-then-buffer-at : goal.returns-then-buffer-at
 returns-then-buffer-at c =
     let h = c.if-buffer-at.true in
-    (sym (end_not _ _ _ (omega arith)), sym (put_not _ _ _ (omega arith)))
+    record { value = sym (end_not _ _ _ (omega arith)); buffer_after = sym (put_not _ _ _ (omega arith)) }
 
 pub returns-then-buffer-at-2 : goal.returns-then-buffer-at-2
 returns-then-buffer-at-2 c =
     let n = c.front_len-size.ensures.0 in
-    (sym (end_not _ _ _ (omega (arith, n))), sym (put_not _ _ _ (omega (arith, n))))
+    record { value = sym (end_not _ _ _ (omega (arith, n))); buffer_after = sym (put_not _ _ _ (omega (arith, n))) }
 
 pub put_head-second-requires : goal.put_head-second-requires
 put_head-second-requires c =
@@ -46,5 +46,4 @@ put_numbers-requires c =
 
 pub returns : goal.returns
 returns c =
-    let a = c.args in
-    front-laid a.buffer.now a.at a.kind a.id.0 (to_bits a.time.0) a.numbers (fits (goal.at.returns c).After-put_head-arg-1) _ _ c.put_head-second.ensures _ _ c.put_numbers.ensures
+    let a = c.args in let both = front-laid a.buffer.now a.at a.kind a.id.0 (to_bits a.time.0) a.numbers (fits (goal.at.returns c).After-put_head-arg-1) _ _ c.put_head-second.ensures _ _ c.put_numbers.ensures in record { value = both.0; buffer_after = both.1 }

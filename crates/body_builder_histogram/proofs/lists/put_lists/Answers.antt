@@ -20,5 +20,4 @@ put_bucket_sides-requires c =
 
 pub returns : goal.returns
 returns c =
-    let s = c in
-    lists-laid s.args.kind ((lent_lists (lent s.args.po.now s.args.pl.now s.args.mo.now s.args.ml.now s.args.pb.now s.args.mb.now))) s.args.buffer.now _ s.requires.2 _ _ c.put_span_sides-buckets.ensures _ _ c.put_bucket_sides.ensures
+    let s = c in let both = lists-laid s.args.kind ((lent_lists (lent s.args.po.now s.args.pl.now s.args.mo.now s.args.ml.now s.args.pb.now s.args.mb.now))) s.args.buffer.now _ s.requires.2 _ _ c.put_span_sides-buckets.ensures _ _ c.put_bucket_sides.ensures in record { value = both.0; buffer_after = both.1 }

@@ -38,4 +38,4 @@ shape_of-buffer c =
     ap length (laid (goal.at.shape_of-buffer c).After-slice_known-6-1).1 ∙ length-sets a.buffer.now a.at (numbers_bytes a.kind a.numbers)
 
 pub returns : goal.returns
-returns c = laid (goal.at.returns c).After-slice_known-6-1
+returns c = let both = laid (goal.at.returns c).After-slice_known-6-1 in record { value = both.0; buffer_after = both.1 }

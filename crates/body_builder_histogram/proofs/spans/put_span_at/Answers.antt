@@ -19,12 +19,12 @@ sized c = let n = rw (to_z-of_z {w = w32} c.ranges.offset) at c.span_size-bytes.
 pub returns-then-buffer-at : goal.returns-then-buffer-at
 returns-then-buffer-at c =
     let h = c.if-buffer-at.true in
-    (sym (end_not _ _ _ (omega arith)), sym (put_not _ _ _ (omega arith)))
+    record { value = sym (end_not _ _ _ (omega arith)); buffer_after = sym (put_not _ _ _ (omega arith)) }
 
 pub returns-then-buffer-at-2 : goal.returns-then-buffer-at-2
 returns-then-buffer-at-2 c =
     let n = sized (goal.at.returns-then-buffer-at-2 c).After-span_size-bytes in
-    (sym (end_not _ _ _ (omega (arith, n))), sym (put_not _ _ _ (omega (arith, n))))
+    record { value = sym (end_not _ _ _ (omega (arith, n))); buffer_after = sym (put_not _ _ _ (omega (arith, n))) }
 
 pub put_span-requires : goal.put_span-requires
 put_span-requires c = rw (to_z-of_z {w = w32} c.ranges.offset) (omega (arith, sized (goal.at.put_span-requires c).After-span_size-bytes))
@@ -34,4 +34,4 @@ returns c =
     let s = c in
     let n = sized (goal.at.returns c).After-span_size-bytes in
     let w = rw (to_z-of_z {w = w32} s.ranges.offset) at c.put_span.ensures in
-    (w.0 ∙ sym (end_fits _ _ _ (omega (arith, n))), w.1 ∙ sym (put-fits _ _ _ (omega (arith, n))))
+    record { value = w.0 ∙ sym (end_fits _ _ _ (omega (arith, n))); buffer_after = w.1 ∙ sym (put-fits _ _ _ (omega (arith, n))) }

@@ -15,5 +15,4 @@ pub returns : goal.returns
 returns c =
     let s = c in
     let few = length-spans s.args.offsets.now s.args.lengths.now s.requires.0 in
-    let w = c.put_uvarint-first.ensures in
-    list-laid _ _ _ _ s.requires.1 _ _ _ (sym few) w.0 w.1 _ _ c.put_spans.ensures
+    let w = c.put_uvarint-first.ensures in let both = list-laid _ _ _ _ s.requires.1 _ _ _ (sym few) w.0 w.1 _ _ c.put_spans.ensures in record { value = both.0; buffer_after = both.1 }

@@ -19,5 +19,4 @@ put_span_list-requires c =
 
 pub returns : goal.returns
 returns c =
-    let s = c in
-    sides-laid element.Span ((sides (join_spans s.args.po.now s.args.pl.now) (join_spans s.args.mo.now s.args.ml.now))) s.args.buffer.now _ s.requires.2 _ _ c.put_span_list-negative.ensures _ _ c.put_span_list.ensures
+    let s = c in let both = sides-laid element.Span ((sides (join_spans s.args.po.now s.args.pl.now) (join_spans s.args.mo.now s.args.ml.now))) s.args.buffer.now _ s.requires.2 _ _ c.put_span_list-negative.ensures _ _ c.put_span_list.ensures in record { value = both.0; buffer_after = both.1 }

@@ -36,5 +36,4 @@ shape_of-buffer c = c.loop-i.invariant.size
 pub returns : goal.returns
 returns c =
     let s = c in
-    let few = length-spans s.args.offsets.now s.args.lengths.now s.requires.0 in
-    laid _ _ _ _ _ _ _ c.loop-i.invariant (omega arith)
+    let few = length-spans s.args.offsets.now s.args.lengths.now s.requires.0 in let both = laid _ _ _ _ _ _ _ c.loop-i.invariant (omega arith) in record { value = both.0; buffer_after = both.1 }

@@ -7,7 +7,7 @@ use Rattle.body_copy.proofs.Copying.{told-size, told-bad}
 use Rattle.body_copy.proofs.strings.list_size.Goals as goal
 
 pub overflow_add-size : goal.overflow_add-size
-overflow_add-size c = omega (arith, c.uvarint_len-head.ensures.1, (told-size _ _ _ _ _ c.strings_size.ensures c.in-Size.is).small)
+overflow_add-size c = omega (arith, c.uvarint_len-head.ensures.lower_bound, (told-size _ _ _ _ _ c.strings_size.ensures c.in-Size.is).small)
 
 pub returns-in-Size : goal.returns-in-Size
 returns-in-Size c =

@@ -8,12 +8,12 @@ use Rattle.body_copy.proofs.strings.string_size.Goals as goal
 pub overflow_add-size : goal.overflow_add-size
 overflow_add-size c =
     let t = string-told _ _ c.string_field_at.ensures c.in-Got.is in
-    omega (arith, c.uvarint_len-head.ensures.1, string_small _ _ _ _ _ t)
+    omega (arith, c.uvarint_len-head.ensures.lower_bound, string_small _ _ _ _ _ t)
 
 pub returns-in-Got : goal.returns-in-Got
 returns-in-Got c =
     let t = string-told _ _ c.string_field_at.ensures c.in-Got.is in
-    string-size_is _ _ _ _ _ _ t c.uvarint_len-head.ensures.0
+    string-size_is _ _ _ _ _ _ t c.uvarint_len-head.ensures.value
 
 pub returns-in-Fault : goal.returns-in-Fault
 returns-in-Fault c = string-size-bad _ _ (string_faulty _ _ c.string_field_at.ensures c.in-Fault.is)

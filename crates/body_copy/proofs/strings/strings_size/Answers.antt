@@ -6,31 +6,32 @@ use mathlib.Core.Path.{◌≡◌, refl, subst}
 use Rattle.body_copy.specs.declared.strings.Measured.TheVariants as measured
 use Rattle.body_copy.proofs.Measuring.{Sizing, SizeTold, size-turn, size-done}
 use Rattle.body_copy.proofs.strings.strings_size.Goals as goal
+use Rattle.body_copy.proofs.strings.strings_size.Goals.{After-string_size, In-Got-2}
 
 pub loop-left-init : goal.loop-left-init
 loop-left-init c = record { few = omega arith; behind = omega arith; same = refl }
 
-turn : (c : tie.After-string-size invariant-loop decreases-loop) →
-    let a = c.before.before.before.before.args in
-    let l = c.before.before.loop in
-    SizeTold a.from.now a.first a.count l.at l.total l.left c.string-size.result
-turn c = size-turn _ _ _ _ _ _ c.before.before.loop.invariant c.before.loop-test.true _ c.string-size.ensures
+turn : (c : After-string_size) →
+    let a = c.args in
+    let l = c.loop-left in
+    SizeTold a.from.now a.first a.count l.at l.total l.left c.string_size.result
+turn c = size-turn _ _ _ _ _ _ c.loop-left.invariant c.loop-left-test.true _ c.string_size.ensures
 
 -- a string more
-found : (c : tie.After-size invariant-loop decreases-loop) →
-    let a = c.before.before.before.before.before.before.args in
-    let l = c.before.before.before.before.loop in
-    SizeTold a.from.now a.first a.count l.at l.total l.left (measured.Got c.size.given.0.0 c.size.given.0.1.0)
-found c = subst (SizeTold _ _ _ _ _ _) c.size.given.1 (turn c.before.before)
+found : (c : In-Got-2) →
+    let a = c.args in
+    let l = c.loop-left in
+    SizeTold a.from.now a.first a.count l.at l.total l.left (measured.Got c.in-Got.size c.in-Got.next)
+found c = subst (SizeTold _ _ _ _ _ _) c.in-Got.is (turn c)
 
 pub overflow_add-total : goal.overflow_add-total
-overflow_add-total c = omega (arith, (found c).1)
+overflow_add-total c = omega (arith, (found (goal.at.overflow_add-total c).In-Got-2).1)
 
 pub returns-in-Bad : goal.returns-in-Bad
-returns-in-Bad c = subst (SizeTold _ _ _ _ _ _) c.in-Bad.is (turn c)
+returns-in-Bad c = subst (SizeTold _ _ _ _ _ _) c.in-Bad.is (turn (goal.at.returns-in-Bad c).After-string_size)
 
 pub loop-left-preserved : goal.loop-left-preserved
-loop-left-preserved c = (found c).0
+loop-left-preserved c = (found (goal.at.loop-left-preserved c).In-Got-2).0
 
 pub returns : goal.returns
 returns c =

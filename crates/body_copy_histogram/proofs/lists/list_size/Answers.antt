@@ -6,7 +6,7 @@ use Rattle.body_copy_histogram.proofs.Parts.{list_parts, parts_sized}
 use Rattle.body_copy_histogram.proofs.lists.list_size.Goals as goal
 
 pub overflow_add-result : goal.overflow_add-result
-overflow_add-result c = omega (arith, c.uvarint_len-count.ensures.1, c.items_size-items.ensures.1)
+overflow_add-result c = omega (arith, c.uvarint_len-count.ensures.lower_bound, c.items_size-items.ensures.1)
 
 pub returns : goal.returns
 returns c =
