@@ -8,4 +8,4 @@ pub returns : goal.returns
 returns c =
     let told = c.build_result.ensures in
     let done = c.add_histogram-answer.ensures in
-    (told.0 ∙ ap added_code done.0, told.1 ∙ ap (added_out c.args.used) done.0, done.1)
+    (told.0 ∙ ap added_code done.answer, told.1 ∙ ap (added_out c.args.used) done.answer, done.bytes)

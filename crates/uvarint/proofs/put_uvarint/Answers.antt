@@ -14,4 +14,4 @@ returns-then-buf-at-2 c = record { value = sym (end_not _ _ _ (omega arith)); bu
 pub returns : goal.returns
 returns c =
     let w = c.write_groups.ensures in
-    record { value = w.0 ∙ sym (end_fits _ _ _ (omega arith)); buf_after = w.1 ∙ sym (put-fits _ _ _ (omega arith)) }
+    record { value = w.value ∙ sym (end_fits _ _ _ (omega arith)); buf_after = w.buf_after ∙ sym (put-fits _ _ _ (omega arith)) }

@@ -13,4 +13,4 @@ unfolding varint
 returns c =
     let s = c in
     let z = c.zigzag_of.ensures ∙ ap zigzag (to_z-of_z s.ranges.x) in
-    let p = c.put_uvarint.ensures in record { value = p.0 ∙ ap (λ (n : ℕ). put_end s.args.buf.now s.args.at (uvarint n)) z; buf_after = p.1 ∙ ap (λ (n : ℕ). put_at s.args.buf.now s.args.at (uvarint n)) z }
+    let p = c.put_uvarint.ensures in record { value = p.value ∙ ap (λ (n : ℕ). put_end s.args.buf.now s.args.at (uvarint n)) z; buf_after = p.buf_after ∙ ap (λ (n : ℕ). put_at s.args.buf.now s.args.at (uvarint n)) z }

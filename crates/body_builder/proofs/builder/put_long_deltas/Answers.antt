@@ -12,4 +12,4 @@ returns c =
     let a = c.args in
     let u = c.put_uvarint-second.ensures in
     let v = c.put_uvarint-third.ensures in
-    let w = c.put_be8.ensures in let both = put_three a.buffer.now _ _ _ a.at _ _ _ (uvarint a.id) (uvarint a.time) (be8 a.bits) c.requires u.0 u.1 v.0 v.1 w.0 w.1 in record { value = both.0; buffer_after = both.1 }
+    let w = c.put_be8.ensures in let both = put_three a.buffer.now _ _ _ a.at _ _ _ (uvarint a.id) (uvarint a.time) (be8 a.bits) c.requires u.value u.buf_after v.value v.buf_after w.value w.buf_after in record { value = both.0; buffer_after = both.1 }

@@ -19,25 +19,25 @@ whole : (c : After-slice_known-3-1) →
 unfolding entry_bytes
 whole c =
     let w = c.put_uvarint-second.ensures in
-    byte_laid _ _ _ _ c.args.id.0 c.args.metric ((string_list_bytes (cut_strings c.args.strings.now c.args.lengths.now))) c.requires.1 w.0 w.1 _ _ c.put_list.ensures
+    byte_laid _ _ _ _ c.args.id.0 c.args.metric ((string_list_bytes (cut_strings c.args.strings.now c.args.lengths.now))) c.requires.1 w.value w.buf_after _ _ c.put_list.ensures
 
 pub bounds-buffer-second : goal.bounds-buffer-second
 unfolding entry_bytes
 bounds-buffer-second c =
     let w = c.put_uvarint-second.ensures in
-    byte_room _ _ _ _ c.args.id.0 c.args.metric ((string_list_bytes (cut_strings c.args.strings.now c.args.lengths.now))) c.requires.1 w.0 w.1
+    byte_room _ _ _ _ c.args.id.0 c.args.metric ((string_list_bytes (cut_strings c.args.strings.now c.args.lengths.now))) c.requires.1 w.value w.buf_after
 
 pub overflow_add-list : goal.overflow_add-list
 unfolding entry_bytes
 overflow_add-list c =
     let w = c.put_uvarint-second.ensures in
-    omega (arith, byte_room _ _ _ _ c.args.id.0 c.args.metric ((string_list_bytes (cut_strings c.args.strings.now c.args.lengths.now))) c.requires.1 w.0 w.1)
+    omega (arith, byte_room _ _ _ _ c.args.id.0 c.args.metric ((string_list_bytes (cut_strings c.args.strings.now c.args.lengths.now))) c.requires.1 w.value w.buf_after)
 
 pub put_list-requires : goal.put_list-requires
 unfolding entry_bytes
 put_list-requires c =
     let w = c.put_uvarint-second.ensures in
-    (c.requires.0, byte_then _ _ _ _ c.args.id.0 c.args.metric ((string_list_bytes (cut_strings c.args.strings.now c.args.lengths.now))) c.requires.1 w.0 w.1)
+    (c.requires.0, byte_then _ _ _ _ c.args.id.0 c.args.metric ((string_list_bytes (cut_strings c.args.strings.now c.args.lengths.now))) c.requires.1 w.value w.buf_after)
 
 pub shape_of-buffer : goal.shape_of-buffer
 shape_of-buffer c = ap length (whole (goal.at.shape_of-buffer c).After-slice_known-3-1).1 ∙ simp length-sets

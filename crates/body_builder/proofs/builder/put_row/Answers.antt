@@ -9,13 +9,13 @@ put_deltas-requires c =
     let a = c.args in
     let u = c.put_be8-second.ensures in
     let v = rw c.time_bits.ensures at c.put_be8-third.ensures in
-    first-room a.buffer.now _ _ a.at _ _ a.id.0 (to_bits a.time.0) a.bits c.if-at-eq1.true c.requires.1 u.0 u.1 v.0 v.1
+    first-room a.buffer.now _ _ a.at _ _ a.id.0 (to_bits a.time.0) a.bits c.if-at-eq1.true c.requires.1 u.value u.buf_after v.0 v.1
 
 pub returns-then-at-eq1 : goal.returns-then-at-eq1
 returns-then-at-eq1 c =
     let a = c.args in
     let u = c.put_be8-second.ensures in
-    let v = rw c.time_bits.ensures at c.put_be8-third.ensures in let both = first-row a.buffer.now _ _ a.at _ _ a.id.0 (to_bits a.time.0) a.bits c.if-at-eq1.true c.requires.1 u.0 u.1 v.0 v.1
+    let v = rw c.time_bits.ensures at c.put_be8-third.ensures in let both = first-row a.buffer.now _ _ a.at _ _ a.id.0 (to_bits a.time.0) a.bits c.if-at-eq1.true c.requires.1 u.value u.buf_after v.0 v.1
     _ _ c.put_deltas.ensures in record { value = both.0; buffer_after = both.1 }
 
 pub put_deltas-requires-2 : goal.put_deltas-requires-2

@@ -34,7 +34,7 @@ whole : (c : After-slice_known-2-1) →
 whole c =
     let s = c in
     let w = c.put_be8.ensures in
-    short-put s.args.id s.args.time s.args.bits s.requires.0 s.requires.1 s.args.buffer.now _ s.args.at _ s.requires.2 w.0 w.1
+    short-put s.args.id s.args.time s.args.bits s.requires.0 s.requires.1 s.args.buffer.now _ s.args.at _ s.requires.2 w.value w.buf_after
 
 pub shape_of-buffer : goal.shape_of-buffer
 shape_of-buffer c = ap length (whole (goal.at.shape_of-buffer c).After-slice_known-2-1).1 ∙ simp length-sets

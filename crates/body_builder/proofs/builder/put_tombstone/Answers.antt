@@ -14,4 +14,4 @@ returns c =
     let a = c.args in
     let u = c.put_be8-second.ensures in
     let v = rw (to_z-of_z {w = w64} (sfits_of c.type_inv.min.0.1)) at c.put_varint-third.ensures in
-    let w = rw (to_z-of_z {w = w64} (sfits_of c.type_inv.max.0.1)) at c.put_varint.ensures in let both = put_three a.buffer.now _ _ _ a.at _ _ _ (be8 a.id.0) (varint a.min.0) (varint a.max.0) c.requires u.0 u.1 v.0 v.1 w.0 w.1 in record { value = both.0; buffer_after = both.1 }
+    let w = rw (to_z-of_z {w = w64} (sfits_of c.type_inv.max.0.1)) at c.put_varint.ensures in let both = put_three a.buffer.now _ _ _ a.at _ _ _ (be8 a.id.0) (varint a.min.0) (varint a.max.0) c.requires u.value u.buf_after v.0 v.1 w.0 w.1 in record { value = both.0; buffer_after = both.1 }

@@ -12,4 +12,4 @@ pub returns : goal.returns
 returns c =
     let p = c.uvarint_len-first.ensures in
     let q = c.uvarint_len-second.ensures in
-    rw (ne_eqb _ _ c.if-used-eq1.false) (omega (arith, p.0, q.0), omega (arith, p.1, q.1))
+    rw (ne_eqb _ _ c.if-used-eq1.false) (omega (arith, p.value, q.value), omega (arith, p.lower_bound, q.lower_bound))

@@ -39,4 +39,4 @@ pub returns : goal.returns
 returns c =
     let n = sized (goal.at.returns c).After-row_size-size in
     let w = c.put_row.ensures in
-    record { value = w.0 ∙ sym (end_fits _ _ _ (omega (arith, n))); buffer_after = w.1 ∙ sym (put-fits _ _ _ (omega (arith, n))) }
+    record { value = w.value ∙ sym (end_fits _ _ _ (omega (arith, n))); buffer_after = w.buffer_after ∙ sym (put-fits _ _ _ (omega (arith, n))) }

@@ -20,7 +20,7 @@ loop-i-preserved c =
     let a = c.args in
     let l = c.loop-i in
     let u = c.uvarint_len-head.ensures in
-    (omega (arith, heads-step a.lengths.now l.i (omega arith), u.0), omega (arith, u.1), omega arith)
+    (omega (arith, heads-step a.lengths.now l.i (omega arith), u.value), omega (arith, u.lower_bound), omega arith)
 
 pub returns : goal.returns
 returns c =

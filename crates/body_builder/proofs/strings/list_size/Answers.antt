@@ -19,4 +19,4 @@ unfolding list_size
 returns c =
     let u = c.uvarint_len-count.ensures in
     let h = c.heads_size-heads.ensures in
-    rw (le-ltb _ _ c.if-lengths-gt-RECORD_LIMIT.false, le-ltb _ _ c.if-strings-gt-RECORD_LIMIT.false) (omega (arith, u.0, h.0), omega (arith, u.1, h.1))
+    rw (le-ltb _ _ c.if-lengths-gt-RECORD_LIMIT.false, le-ltb _ _ c.if-strings-gt-RECORD_LIMIT.false) (omega (arith, u.value, h.0), omega (arith, u.lower_bound, h.1))

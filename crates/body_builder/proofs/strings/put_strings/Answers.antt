@@ -17,14 +17,14 @@ overflow_add-place c =
     let l = c.loop-i in
     let w = c.put_uvarint-start.ensures in
     let h : l.i < length c.args.lengths.now = omega arith in
-    omega (arith, string-room _ _ _ _ _ _ _ _ l.invariant h c.requires.1 _ _ w.0 w.1)
+    omega (arith, string-room _ _ _ _ _ _ _ _ l.invariant h c.requires.1 _ _ w.value w.buf_after)
 
 pub overflow_add-from : goal.overflow_add-from
 overflow_add-from c =
     let l = c.loop-i in
     let w = c.put_uvarint-start.ensures in
     let h : l.i < length c.args.lengths.now = omega arith in
-    omega (arith, string_inside _ _ _ _ _ _ _ _ l.invariant h c.requires.1 _ _ w.0 w.1)
+    omega (arith, string_inside _ _ _ _ _ _ _ _ l.invariant h c.requires.1 _ _ w.value w.buf_after)
 
 pub overflow_add-i : goal.overflow_add-i
 overflow_add-i c = omega arith
@@ -38,9 +38,9 @@ loop-i-preserved c =
     let w = c.put_uvarint-start.ensures in
     let h : l.i < length c.args.lengths.now = omega arith in
     let pre = c.requires.1 in
-    let inside = string_inside _ _ _ _ _ _ _ _ l.invariant h pre _ _ w.0 w.1 in
-    let room = string-room _ _ _ _ _ _ _ _ l.invariant h pre _ _ w.0 w.1 in
-    string-laid _ _ _ _ _ _ _ _ l.invariant h c.requires.1 _ _ w.0 w.1 _ (c.copy.ensures ∙ copied-fits _ _ _ _ _ inside room)
+    let inside = string_inside _ _ _ _ _ _ _ _ l.invariant h pre _ _ w.value w.buf_after in
+    let room = string-room _ _ _ _ _ _ _ _ l.invariant h pre _ _ w.value w.buf_after in
+    string-laid _ _ _ _ _ _ _ _ l.invariant h c.requires.1 _ _ w.value w.buf_after _ (c.copy.ensures ∙ copied-fits _ _ _ _ _ inside room)
 
 pub shape_of-buffer : goal.shape_of-buffer
 shape_of-buffer c = c.loop-i.invariant.size

@@ -11,4 +11,4 @@ pub returns : goal.returns
 returns c =
     let u = c.uvarint_len-count.ensures in
     let v = c.buckets_size-each.ensures in
-    (list-exact _ _ _ _ u.0 v.0, omega (arith, u.1, v.1))
+    (list-exact _ _ _ _ u.value v.0, omega (arith, u.lower_bound, v.1))

@@ -19,7 +19,7 @@ loop-i-preserved c =
     let w = c.put_bucket-place.ensures in
     let e = bucket-step _ _ h in
     let room = item_room _ _ _ _ _ _ _ l.invariant _ e h pre in
-    item_laid _ _ _ _ _ _ _ l.invariant _ e h pre _ _ (put_last _ _ _ _ _ room w.0 w.1)
+    item_laid _ _ _ _ _ _ _ l.invariant _ e h pre _ _ (put_last _ _ _ _ _ room w.value w.buffer_after)
 
 pub shape_of-buffer : goal.shape_of-buffer
 shape_of-buffer c = c.loop-i.invariant.size

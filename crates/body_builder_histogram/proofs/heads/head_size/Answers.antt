@@ -8,10 +8,10 @@ pub returns-then-used-eq1 : goal.returns-then-used-eq1
 returns-then-used-eq1 c =
     let p = c.uvarint_len-first.ensures in
     let q = c.uvarint_len-second.ensures in
-    rw (eq-eqb _ _ c.if-used-eq1.true) (omega (arith, p.0, q.0), omega (arith, p.1, q.1))
+    rw (eq-eqb _ _ c.if-used-eq1.true) (omega (arith, p.value, q.value), omega (arith, p.lower_bound, q.lower_bound))
 
 pub returns-else-used-eq1 : goal.returns-else-used-eq1
 returns-else-used-eq1 c =
     let p = c.uvarint_len-first.ensures in
     let q = c.uvarint_len-second.ensures in
-    rw (ne_eqb _ _ c.if-used-eq1.false) (omega (arith, p.0, q.0), omega (arith, p.1, q.1))
+    rw (ne_eqb _ _ c.if-used-eq1.false) (omega (arith, p.value, q.value), omega (arith, p.lower_bound, q.lower_bound))

@@ -15,4 +15,4 @@ returns c =
     let s = c in
     let bytes = firsts-first s.args.at s.args.id.0 (to_bits s.args.time.0) c.if-at-ne1.false in
     let v = c.put_be8-second.ensures in
-    let w = rw c.time_bits.ensures at c.put_be8.ensures in let both = rw bytes (put_two s.args.buffer.now _ _ _ _ _ (be8 s.args.id.0) (be8 (to_bits s.args.time.0)) (rw bytes at s.requires) v.0 v.1 w.0 w.1) in record { value = both.0; buffer_after = both.1 }
+    let w = rw c.time_bits.ensures at c.put_be8.ensures in let both = rw bytes (put_two s.args.buffer.now _ _ _ _ _ (be8 s.args.id.0) (be8 (to_bits s.args.time.0)) (rw bytes at s.requires) v.value v.buf_after w.0 w.1) in record { value = both.0; buffer_after = both.1 }

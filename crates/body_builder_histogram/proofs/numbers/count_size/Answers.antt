@@ -10,7 +10,7 @@ use Rattle.body_builder_histogram.proofs.numbers.count_size.Goals as goal
 pub returns-in-Whole : goal.returns-in-Whole
 returns-in-Whole c =
     let u = c.uvarint_len.ensures in
-    (u.0 ∙ ap length (whole-count _ _ c.in-Whole.is), u.1.1)
+    (u.value ∙ ap length (whole-count _ _ c.in-Whole.is), u.lower_bound.1)
 
 pub returns-in-Float : goal.returns-in-Float
 returns-in-Float c = (sym (length-be8 _) ∙ ap length (float_count _ _ c.in-Float.is), omega arith)

@@ -24,7 +24,7 @@ laid c =
     let z = c.put_count-count.ensures in
     let n = c.put_count-sum.ensures in
     let t = c.put_be8.ensures in
-    numbers-laid _ _ _ _ s.requires _ _ _ _ _ _ _ _ _ _ v.0 v.1 w.0 w.1 z.0 z.1 n.0 n.1 t.0 t.1
+    numbers-laid _ _ _ _ s.requires _ _ _ _ _ _ _ _ _ _ v.0 v.1 w.value w.buf_after z.value z.buffer_after n.value n.buffer_after t.value t.buf_after
 
 pub bounds-buffer-at : goal.bounds-buffer-at
 bounds-buffer-at c = hint-room _ _ c.args.buffer.now _ c.requires

@@ -17,4 +17,4 @@ returns c =
     let a = c.args in
     let u = c.uvarint_len-count.ensures in
     let v = c.spans_size-spans.ensures in
-    (λ e. list-exact _ _ _ _ (rw (length-spans a.offsets.now a.lengths.now e) u.0) v.0, omega (arith, u.1, v.1))
+    (λ e. list-exact _ _ _ _ (rw (length-spans a.offsets.now a.lengths.now e) u.value) v.0, omega (arith, u.lower_bound, v.1))

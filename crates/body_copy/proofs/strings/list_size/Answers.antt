@@ -13,7 +13,7 @@ pub returns-in-Size : goal.returns-in-Size
 returns-in-Size c =
     let t = told-size _ _ _ _ _ c.strings_size.ensures c.in-Size.is in
     let u = c.uvarint_len-head.ensures in
-    (t.bad, λ good. t.is _ u.0, omega (arith, u.1, t.small))
+    (t.bad, λ good. t.is _ u.value, omega (arith, u.lower_bound, t.small))
 
 pub returns-in-Bad : goal.returns-in-Bad
 returns-in-Bad c = (

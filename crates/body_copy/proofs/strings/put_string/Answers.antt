@@ -27,7 +27,7 @@ fits c =
     let s = c in
     let t = read c in
     let w = c.put_uvarint-first.ensures in
-    text-room _ _ _ _ _ t.0 t.1 t.2 t.3 s.args.buffer.now s.args.place s.requires _ _ w.0 w.1
+    text-room _ _ _ _ _ t.0 t.1 t.2 t.3 s.args.buffer.now s.args.place s.requires _ _ w.value w.buf_after
 
 pub overflow_add-end : goal.overflow_add-end
 overflow_add-end c = omega (arith, fits (goal.at.overflow_add-end c).After-put_uvarint-first)
@@ -37,8 +37,8 @@ returns-in-Got c =
     let s = c in
     let t = read (goal.at.returns-in-Got c).In-Got-2 in
     let w = c.put_uvarint-first.ensures in
-    let inside = text_inside _ _ _ _ _ t.0 t.1 t.2 t.3 s.args.buffer.now s.args.place s.requires _ _ w.0 w.1 in
-    text-laid _ _ _ _ _ t.0 t.1 t.2 t.3 s.args.buffer.now s.args.place s.requires _ _ w.0 w.1 _
+    let inside = text_inside _ _ _ _ _ t.0 t.1 t.2 t.3 s.args.buffer.now s.args.place s.requires _ _ w.value w.buf_after in
+    text-laid _ _ _ _ _ t.0 t.1 t.2 t.3 s.args.buffer.now s.args.place s.requires _ _ w.value w.buf_after _
     (c.copy.ensures ∙ copied-fits _ _ _ _ _ inside (fits (goal.at.returns-in-Got c).After-put_uvarint-first))
 
 pub shape_of-buffer : goal.shape_of-buffer

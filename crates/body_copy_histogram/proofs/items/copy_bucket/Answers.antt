@@ -9,7 +9,7 @@ pub returns-in-Found : goal.returns-in-Found
 returns-in-Found c =
     let e = bucket-got (bucket_at c.args.kind c.args.from.now c.args.at) _ c.bucket_at.ensures c.in-Found.is in
     let w = c.put_bucket-end.ensures in
-    copied-got (element.Bucket c.args.kind) _ c.args.at _ _ _ _ e _ _ w.0 w.1
+    copied-got (element.Bucket c.args.kind) _ c.args.at _ _ _ _ e _ _ w.value w.buffer_after
 
 pub returns-in-Refused : goal.returns-in-Refused
 returns-in-Refused c = copied_none (element.Bucket c.args.kind) (bucket_at c.args.kind c.args.from.now c.args.at) _ _ _ (bucket-fault _ _ c.bucket_at.ensures c.in-Refused.is)

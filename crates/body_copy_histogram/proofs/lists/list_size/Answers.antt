@@ -13,4 +13,4 @@ returns c =
     let u = c.uvarint_len-count.ensures in
     let i = c.items_size-items.ensures in
     let a = c.args in
-    (parts_sized (list_parts a.element a.from.now a.list) _ _ (exact u.0) i.0, omega (arith, u.1, i.1))
+    (parts_sized (list_parts a.element a.from.now a.list) _ _ (exact u.value) i.0, omega (arith, u.lower_bound, i.1))

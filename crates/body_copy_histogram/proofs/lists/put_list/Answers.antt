@@ -8,11 +8,11 @@ put_items-requires c =
     let s = c in
     let e = list_parts s.args.element s.args.from.now s.args.list in
     let w = c.put_uvarint-items.ensures in
-    second-room e s.args.buffer.now s.args.at s.requires _ _ (first-put e s.args.buffer.now s.args.at s.requires _ _ w.0 w.1)
+    second-room e s.args.buffer.now s.args.at s.requires _ _ (first-put e s.args.buffer.now s.args.at s.requires _ _ w.value w.buf_after)
 
 pub returns : goal.returns
 returns c =
     let s = c in
     let e = list_parts s.args.element s.args.from.now s.args.list in
     let w = c.put_uvarint-items.ensures in
-    both_laid e s.args.buffer.now s.args.at s.requires _ _ (first-put e s.args.buffer.now s.args.at s.requires _ _ w.0 w.1) _ _ c.put_items.ensures
+    both_laid e s.args.buffer.now s.args.at s.requires _ _ (first-put e s.args.buffer.now s.args.at s.requires _ _ w.value w.buf_after) _ _ c.put_items.ensures
