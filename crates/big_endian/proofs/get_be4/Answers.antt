@@ -15,4 +15,4 @@ returns-then-buf-at-lt4 c = record { value = sym (short4 _ (rw length-drop (omeg
 pub returns : goal.returns
 returns c =
     let v = c.read_half.ensures in
-    record { value = v.0 ∙ sym (whole4 _ (rw length-drop (omega arith))); upper_bound = v.1 }
+    record { value = v.value ∙ sym (whole4 _ (rw length-drop (omega arith))); upper_bound = v.upper_bound }

@@ -27,4 +27,4 @@ returns-then-buf-at-lt4 c = record { value = sym (end_not _ _ _ (rw length-be4 (
 pub returns : goal.returns
 returns c =
     let a = c.args in
-    let v = c.write_half.ensures in let both = put_four a.buf.now _ a.at _ a.x (omega arith) v.0 v.1 in record { value = both.0; buf_after = both.1 }
+    let v = c.write_half.ensures in let both = put_four a.buf.now _ a.at _ a.x (omega arith) v.value v.buf_after in record { value = both.0; buf_after = both.1 }

@@ -36,4 +36,4 @@ pub returns : goal.returns
 returns c =
     let a = c.args in
     let v = c.write_half-middle.ensures in
-    let w = c.write_half.ensures in let both = put-halves a.buf.now _ _ a.at _ _ a.x (omega arith) v.0 v.1 w.0 w.1 in record { value = both.0; buf_after = both.1 }
+    let w = c.write_half.ensures in let both = put-halves a.buf.now _ _ a.at _ _ a.x (omega arith) v.value v.buf_after w.value w.buf_after in record { value = both.0; buf_after = both.1 }
