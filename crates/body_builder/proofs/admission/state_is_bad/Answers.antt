@@ -2,7 +2,7 @@
 use borrow.Author.Rules.{rules}
 use native.Mathlib.Omega.{arith}
 use mathlib.Core.Path.{◌≡◌, sym}
-use mathlib.Core.Bool.{◌||◌, ◌&&◌, not, or_true, or-false, and-true, and_false}
+use mathlib.Core.Bool.{◌||◌, ◌&&◌, not, or-true, or-false, and-true, and-false}
 use lib.Dec.{leb, eqb}
 use lib.ListN.{get_or}
 use borrow.Author.Tests.{le-leb, lt-leb, eq-eqb, ne_eqb}
@@ -32,13 +32,13 @@ pub returns-then-buffer-used : goal.returns-then-buffer-used
 returns-then-buffer-used c = sym (state-past _ _ _ (omega arith) c.if-buffer-used.true)
 
 pub returns-then-buffer-tag : goal.returns-then-buffer-tag
-returns-then-buffer-tag c = rw (inside (goal.at.returns-then-buffer-tag c).Else-buffer-used, ne_eqb _ _ c.if-buffer-tag.true, or_true _)
+returns-then-buffer-tag c = rw (inside (goal.at.returns-then-buffer-tag c).Else-buffer-used, ne_eqb _ _ c.if-buffer-tag.true, or-true _)
 
 pub returns-then-used-lt2 : goal.returns-then-used-lt2
-returns-then-used-lt2 c = rw (rows (goal.at.returns-then-used-lt2 c).Else-buffer-tag, lt-leb _ _ c.if-used-lt2.true, and_false _)
+returns-then-used-lt2 c = rw (rows (goal.at.returns-then-used-lt2 c).Else-buffer-tag, lt-leb _ _ c.if-used-lt2.true, and-false _)
 
 pub returns-then-used-gt16 : goal.returns-then-used-gt16
-returns-then-used-gt16 c = rw (rows (goal.at.returns-then-used-gt16 c).Else-buffer-tag, le-leb _ _ c.if-used-lt2.false, lt-leb _ _ c.if-used-gt16.true, and_false _)
+returns-then-used-gt16 c = rw (rows (goal.at.returns-then-used-gt16 c).Else-buffer-tag, le-leb _ _ c.if-used-lt2.false, lt-leb _ _ c.if-used-gt16.true, and-false _)
 
 pub returns : goal.returns
 returns c = rw (rows (goal.at.returns c).Else-buffer-tag, le-leb _ _ c.if-used-lt2.false, le-leb _ _ c.if-used-gt16.false, and-true _) c.is_row_type.ensures
