@@ -1026,4 +1026,4 @@ returns-in-254 c = at 24 _ 254 0xbf63ce95 c.in-254.is refl
 
 pub returns-in_default : goal.returns-in_default
 unfolding bit_steps bit_step
-returns-in_default c = at 24 c.args.n 255 0x1a225ceb (last c.args.n c.ranges.n.fits c.in_default.rest) refl
+returns-in_default c = at 24 c.args.n 255 0x1a225ceb (last c.args.n c.ranges.n.fits c.in_default.in_default-own.rest) refl

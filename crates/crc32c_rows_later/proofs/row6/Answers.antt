@@ -1026,4 +1026,4 @@ returns-in-254 c = at 56 _ 254 0xe07c1f73 c.in-254.is refl
 
 pub returns-in_default : goal.returns-in_default
 unfolding bit_steps bit_step
-returns-in_default c = at 56 c.args.n 255 0x887f33bb (last c.args.n c.ranges.n.fits c.in_default.rest) refl
+returns-in_default c = at 56 c.args.n 255 0x887f33bb (last c.args.n c.ranges.n.fits c.in_default.in_default-own.rest) refl

@@ -1026,4 +1026,4 @@ returns-in-254 c = at 64 _ 254 0x6228dbe6 c.in-254.is refl
 
 pub returns-in_default : goal.returns-in_default
 unfolding bit_steps bit_step
-returns-in_default c = at 64 c.args.n 255 0x2b14a6c1 (last c.args.n c.ranges.n.fits c.in_default.rest) refl
+returns-in_default c = at 64 c.args.n 255 0x2b14a6c1 (last c.args.n c.ranges.n.fits c.in_default.in_default-own.rest) refl

@@ -43,7 +43,7 @@ pub returns-in_default : goal.returns-in_default
 unfolding standing_of
 returns-in_default c =
     let n = c.args.number in
-    let r = c.in_default.rest in
+    let r = c.in_default.in_default-own.rest in
     rw (
       ne_eqb n 3 r.0.0.0.0.0.0.0.0.1,
       ne_eqb n 4 r.0.0.0.0.0.0.0.1,
