@@ -34,7 +34,7 @@ returns c =
     let z = b.fold_again.new.y in
     let r = q.rest_again.new.r in
     let l : length r ≡ 130 = d.r-2-1.given in
-    two_parts 66 64 0 r (omega arith) d.short.ensures c.short.ensures
+    two_parts 66 64 0 r (omega arith) d.short-c.ensures c.short.ensures
     ∙ register-fold_once onto130 multiple130 m (take (length m - 160) (drop 160 m)) z (take 194 (drop 160 z)) r 160 350
     b.fold_again.ensures q.rest_again.ensures (λ k. omega (arith, b.type_inv.m k))
     (λ j h. get_d_part (length m - 160) m 160 j (omega arith)) (λ j h. get_d_part 194 z 160 j h) (omega arith) (omega arith)
