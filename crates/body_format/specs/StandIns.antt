@@ -13,7 +13,7 @@ use Rattle.wal_types.specs.Deltas.{to_bits, int_from_bits, plus, minus}
 use Rattle.body_format.specs.declared.CheckAnswer.{CheckAnswer}
 use Rattle.body_format.specs.declared.CheckAnswer.TheVariants.{Entries, Refused}
 use Rattle.body_format.specs.declared.EntryAnswer.TheVariants.{End}
-use Rattle.body_format.specs.Fields.{got, fixed_at, uvarint_at, varint_at}
+use Rattle.body_format.specs.Fields.{got, fixed_at, varint_at}
 use Rattle.body_format.specs.Entries.{tombstones, body_type_of, Entry, sample_entry, tombstone_entry, row_at, sample_at, tombstone_at, entries_from, entries}
 use Rattle.body_format.specs.Reading.{check_body, place_or_end, bad_place, entry_place, read_entry}
 use Rattle.body_format.specs.Heads.{delta_bytes, delta_at, head_at, head_bytes}

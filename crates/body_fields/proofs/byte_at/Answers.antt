@@ -1,5 +1,4 @@
 -- `byte_at` meets its contract.
-use borrow.Author.Rules.{rules}
 use native.Mathlib.Omega.{arith}
 use mathlib.Core.Path.{sym, ap}
 use Rattle.body_format.specs.Laws.Fields.{byte_got, byte_short}

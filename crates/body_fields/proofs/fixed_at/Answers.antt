@@ -1,5 +1,4 @@
 -- `fixed_at` meets its contract: eight bytes, if they are there.
-use borrow.Author.Rules.{rules}
 use native.Mathlib.Omega.{arith}
 use Prim.Native.Nat.{ℕ, ◌+◌}
 use mathlib.Core.Path.{sym, ap, ◌∙◌}

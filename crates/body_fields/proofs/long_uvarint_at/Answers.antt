@@ -1,5 +1,4 @@
 -- `long_uvarint_at` meets its contract, by the three answers of `get_uvarint`.
-use borrow.Author.Rules.{rules}
 use native.Mathlib.Omega.{arith}
 use mathlib.Core.Path.{sym, ap, ◌∙◌}
 use lib.ListN.{length-drop}

@@ -1,5 +1,4 @@
 -- `plain_entry` meets its contract: a bad place, the end, or the entry of the type.
-use borrow.Author.Rules.{rules}
 use native.Mathlib.Omega.{arith}
 use Prim.Native.Nat.{ℕ}
 use mathlib.Core.Path.{◌≡◌, sym, ap, ◌∙◌}

@@ -1,5 +1,4 @@
 -- `state_is_bad` meets its contract, test by test.
-use borrow.Author.Rules.{rules}
 use native.Mathlib.Omega.{arith}
 use mathlib.Core.Path.{◌≡◌, sym}
 use mathlib.Core.Bool.{◌||◌, ◌&&◌, not, or-true, or-false, and-true, and-false}

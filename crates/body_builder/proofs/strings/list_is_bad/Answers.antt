@@ -1,5 +1,4 @@
 -- `list_is_bad` meets its contract: the count, and the sum.
-use borrow.Author.Rules.{rules}
 use mathlib.Core.Path.{sym, ap}
 use mathlib.Core.Bool.{not}
 use borrow.Author.Tests.{ne_eqb}

@@ -1,5 +1,4 @@
 -- `put_count` meets its contract, by the kind.
-use borrow.Author.Rules.{rules}
 use Rattle.body_builder_histogram.proofs.Fields.{whole-count, float_count}
 use Rattle.body_builder_histogram.proofs.numbers.put_count.Goals as goal
 

@@ -8,7 +8,6 @@ use mir.Facts.{to_z-of_z}
 use mir.Val.{SFits}
 use mir.Syntax.{w32, w64}
 use Rattle.body_format.specs.Histograms.{numbers_bytes}
-use Rattle.body_builder.specs.Laws.Putting.{Put}
 use Rattle.body_builder_histogram.proofs.Fields.{hint-room, numbers-laid}
 use Rattle.body_builder_histogram.proofs.numbers.put_numbers.Goals as goal
 

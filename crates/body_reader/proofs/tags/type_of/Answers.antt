@@ -1,5 +1,4 @@
 -- `type_of` meets its contract: 2, below 2, or from 3 on.
-use borrow.Author.Rules.{rules}
 use native.Mathlib.Omega.{arith}
 use mathlib.Core.Path.{◌≡◌, sym, ap}
 use Rattle.body_format.specs.Entries.{body_type_of}
