@@ -6,7 +6,7 @@ use mathlib.Core.Path.{◌≡◌, refl, sym, ◌∙◌}
 use mathlib.Core.Bool.{true, false}
 use borrow.Author.Tests.{not-true, not-false}
 use Rattle.body_format.specs.Entries.{BodyType, Known, known, unknown}
-use Rattle.body_format.specs.Laws.Additions.{start_no_room, start-used, start-unknown}
+use Rattle.body_format.proofs.Laws.Additions.{start_no_room, start-used, start-unknown}
 use Rattle.body_builder.specs.Sizes.{is_known}
 use Rattle.body_builder.proofs.Body.start.Goals as goal
 

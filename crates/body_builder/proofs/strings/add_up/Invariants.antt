@@ -7,7 +7,7 @@ use mathlib.Core.Path.{◌≡◌, refl, sym}
 use lib.ListN.{length, drop}
 use borrow.Author.Tests.{ne_eqb}
 use Rattle.body_format.specs.Building.{total}
-use Rattle.body_format.specs.Laws.Strings.{total-step}
+use Rattle.body_format.proofs.Laws.Strings.{total-step}
 use Rattle.body_builder.proofs.Sizing.{total-end, sum_is}
 use Rattle.body_builder.proofs.strings.add_up.Given as goal
 
