@@ -8,7 +8,7 @@ use lib.ListN.{length-drop}
 use mir.Syntax.{w64}
 use mir.Facts.{to_z-of_z}
 use Rattle.varint.specs.VarintLaws.{taken-varint}
-use Rattle.body_format.specs.Laws.Fields.{varint-got, varint-short, varint-bad}
+use Rattle.body_format.proofs.Laws.Fields.{varint-got, varint-short, varint-bad}
 use Rattle.body_fields.specs.declared.SignedRead.TheVariants as signed
 use Rattle.body_fields.specs.Readings.{signed_read}
 use Rattle.body_fields.proofs.varint_at.Goals as goal

@@ -5,7 +5,7 @@ use mathlib.Core.Bool.{false}
 use lib.ListN.{length}
 use Rattle.body_format.specs.Entries.{tombstone_entry}
 use Rattle.body_format.specs.Building.{entry_bytes}
-use Rattle.body_format.specs.Laws.Strings.{length-tombstone}
+use Rattle.body_format.proofs.Laws.Strings.{length-tombstone}
 use Rattle.body_builder.specs.Laws.Additions.{Opened, opened, shut, finished, Sized, exact}
 use Rattle.body_builder.proofs.Body.add_tombstone.Goals as goal
 use Rattle.body_builder.proofs.Body.add_tombstone.Goals.{After-tombstone_size-size, In-Open}

@@ -4,7 +4,7 @@ use Prim.Native.Nat.{ℕ}
 use mathlib.Core.Path.{◌≡◌, refl, sym, ◌∙◌}
 use mathlib.Core.Bool.{true, false}
 use Rattle.body_format.specs.Entries.{BodyType, Known, known, unknown}
-use Rattle.body_format.specs.Laws.Additions.{start_no_room, start-used, start-unknown}
+use Rattle.body_format.proofs.Laws.Additions.{start_no_room, start-used, start-unknown}
 use Rattle.body_builder.specs.Sizes.{is_known}
 use Rattle.body_builder.proofs.Body.start.Goals as goal
 

@@ -7,7 +7,7 @@ use lib.ListN.{get_or}
 use borrow.Author.Tests.{le-leb, lt-leb, eq-eqb, ne_eqb}
 use Rattle.body_format.specs.Entries.{body_type_of, rows_known}
 use Rattle.body_format.specs.Building.{bad_state}
-use Rattle.body_format.specs.Laws.Additions.{state_zero, state-past, state_inside}
+use Rattle.body_format.proofs.Laws.Additions.{state_zero, state-past, state_inside}
 use Rattle.body_builder.proofs.admission.state_is_bad.Goals as goal
 use Rattle.body_builder.proofs.admission.state_is_bad.Goals.{Else-buffer-tag, Else-buffer-used}
 

@@ -4,7 +4,7 @@ use native.Mathlib.Omega.{arith}
 use mathlib.Core.Path.{◌≡◌, refl, sym}
 use borrow.Author.Tests.{ne_eqb}
 use Rattle.body_format.specs.Building.{total}
-use Rattle.body_format.specs.Laws.Strings.{total-step}
+use Rattle.body_format.proofs.Laws.Strings.{total-step}
 use Rattle.body_builder.proofs.Sizing.{total-end, sum_is}
 use Rattle.body_builder.proofs.strings.add_up.Goals as goal
 
