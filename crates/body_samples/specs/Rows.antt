@@ -6,7 +6,7 @@ use Rattle.std.proofs.Common.{ap, ◌∙◌, arith, leb-true}
 use Rattle.std.proofs.Math.Bool.{true, false, cond}
 use Rattle.std.proofs.Math.ListN.{drop}
 use Rattle.std.proofs.lemmas.List.{length-map}
-use Rattle.std.proofs.lemmas.List.Edits.{sets, sets_eq}
+use Rattle.std.proofs.lemmas.List.Edits.{sets, sets-eq}
 use Rattle.std.proofs.Math.Dec.{leb}
 use Rattle.wal_types.specs.declared.Refusal.{Refusal}
 use Rattle.wal_types.specs.declared.Refusal.TheVariants.{WrongKind, UnknownType}
@@ -78,7 +78,7 @@ walk_fills s (done h) i l = refl
 front : (es : List Entry) (l : List Sample) → length es ≤ length l → sets l 0 (map sample_of es) ≡ map sample_of es ++ drop (length es) l
 front es l h =
     let n : 0 + length (map sample_of es) ≡ length es = omega (arith, length-map es sample_of) in
-    sets_eq (map sample_of es) l 0 (omega arith) ∙ ap (λ (k : ℕ). map sample_of es ++ drop k l) n
+    sets-eq (map sample_of es) l 0 (omega arith) ∙ ap (λ (k : ℕ). map sample_of es ++ drop k l) n
 
 no_fault : {why : Refusal} {es : List Entry} {p : ℕ} → fault why ≡ got es p → ⊥
 no_fault e = let z : ◌≡◌ {A = ℕ} 0 1 = cc in omega arith

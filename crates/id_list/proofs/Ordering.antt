@@ -14,9 +14,9 @@ use Rattle.checkpoint_format.specs.Keeping.{is_listed}
 use Rattle.id_list.specs.Ascending.{ascends_from, is_ascending}
 use Rattle.id_list.specs.Places.{Below}
 
-or_true : (t : Bool) → (t || true) ≡ true
-or_true true = refl
-or_true false = refl
+or-true : (t : Bool) → (t || true) ≡ true
+or-true true = refl
+or-true false = refl
 
 -- ---- an id that is there
 
@@ -24,7 +24,7 @@ pub listed_at : (id place : ℕ) (ids : List ℕ) → place < length ids → get
 unfolding is_listed
 listed_at id place [] h e = absurd (omega arith)
 listed_at id zero (x ∷ ids) h e = rw (eq-eqb id x (sym e))
-listed_at id (suc place) (x ∷ ids) h e = rw (← listed_at id place ids (omega arith) e) (sym (or_true (eqb id x)))
+listed_at id (suc place) (x ∷ ids) h e = rw (← listed_at id place ids (omega arith) e) (sym (or-true (eqb id x)))
 
 -- ---- one after the other
 

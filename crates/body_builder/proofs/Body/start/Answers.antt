@@ -1,0 +1,30 @@
+-- `Body::start` meets its contract: its type, and then the buffer's room.
+use borrow.Author.Rules.{rules}
+use native.Mathlib.Omega.{arith}
+use Prim.Native.Nat.{ℕ}
+use mathlib.Core.Path.{◌≡◌, refl, sym, ◌∙◌}
+use mathlib.Core.Bool.{true, false}
+use borrow.Author.Tests.{not-true, not-false}
+use Rattle.body_format.specs.Entries.{BodyType, Known, known, unknown}
+use Rattle.body_format.specs.Laws.Additions.{start_no_room, start-used, start-unknown}
+use Rattle.body_builder.specs.Sizes.{is_known}
+use Rattle.body_builder.proofs.Body.start.Goals as goal
+
+some : (n : Known) → is_known n ≡ true → (k : BodyType) × (n ≡ known k)
+some (known k) h = (k, refl)
+some unknown h = let z : ◌≡◌ {A = ℕ} 0 1 = cc in absurd (omega arith)
+
+none : (n : Known) → is_known n ≡ false → n ≡ unknown
+none (known k) h = let z : ◌≡◌ {A = ℕ} 0 1 = cc in absurd (omega arith)
+none unknown h = refl
+
+pub returns-then-not-is_known : goal.returns-then-not-is_known
+returns-then-not-is_known c = let both = rw (start-unknown _ _ (none _ (sym c.is_known.ensures ∙ not-true _ c.if-not-is_known.true))) (refl, refl) in record { answer = both.0; bytes = both.1 }
+
+pub returns-then-buffer-eq0 : goal.returns-then-buffer-eq0
+returns-then-buffer-eq0 c =
+    let k = some _ (sym c.is_known.ensures ∙ not-false _ c.if-not-is_known.false) in let both = rw (start_no_room _ _ k.0 k.1 c.if-buffer-eq0.true) (refl, refl) in record { answer = both.0; bytes = both.1 }
+
+pub returns : goal.returns
+returns c =
+    let k = some _ (sym c.is_known.ensures ∙ not-false _ c.if-not-is_known.false) in let both = rw (start-used c.args.buffer.now _ k.0 k.1 (omega arith)) (refl, refl) in record { answer = both.0; bytes = both.1 }

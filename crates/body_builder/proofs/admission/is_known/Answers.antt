@@ -1,0 +1,39 @@
+-- `is_known` meets its contract, by the byte.
+use mathlib.Core.Path.{sym, ap}
+use Rattle.body_format.specs.Entries.{body_type_of}
+use Rattle.body_format.specs.Laws.Types.{type_unknown}
+use Rattle.body_builder.specs.Sizes.{is_known}
+use Rattle.body_builder.proofs.admission.is_known.Goals as goal
+
+pub returns-in-1 : goal.returns-in-1
+unfolding body_type_of
+returns-in-1 c = rw c.in-1.is
+
+pub returns-in-2 : goal.returns-in-2
+unfolding body_type_of
+returns-in-2 c = rw c.in-2.is
+
+pub returns-in-3 : goal.returns-in-3
+unfolding body_type_of
+returns-in-3 c = rw c.in-3.is
+
+pub returns-in-4 : goal.returns-in-4
+unfolding body_type_of
+returns-in-4 c = rw c.in-4.is
+
+pub returns-in-6 : goal.returns-in-6
+unfolding body_type_of
+returns-in-6 c = rw c.in-6.is
+
+pub returns-in-7 : goal.returns-in-7
+unfolding body_type_of
+returns-in-7 c = rw c.in-7.is
+
+pub returns-in-8 : goal.returns-in-8
+unfolding body_type_of
+returns-in-8 c = rw c.in-8.is
+
+pub returns-in_default : goal.returns-in_default
+returns-in_default c =
+    let r = c.in_default.in_default-own.rest in
+    sym (ap is_known (type_unknown c.args.tag r.0.0.0.0.0.0.1 r.0.0.0.0.0.1 r.0.0.0.0.1 r.0.0.0.1 r.0.0.1 r.0.1 r.1))

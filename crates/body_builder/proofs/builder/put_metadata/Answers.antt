@@ -1,0 +1,46 @@
+-- `put_metadata` meets its contract: the id, the metric type, and then the list.
+use borrow.Author.Rules.{rules}
+use native.Mathlib.Omega.{arith}
+use Prim.Native.Nat.{ℕ}
+use mathlib.Core.Path.{ap, ◌∙◌}
+use mathlib.Core.List.{List}
+use lib.ListN.{length}
+use lib.Seq.{length-sets}
+use Rattle.body_format.specs.Entries.{metadata_entry}
+use Rattle.body_format.specs.Building.{entry_bytes, string_list_bytes, cut_strings}
+use Rattle.body_builder.specs.Laws.Putting.{Put}
+use Rattle.body_builder.proofs.Laying.{byte_room, byte_then, byte_laid}
+use Rattle.body_builder.proofs.builder.put_metadata.Goals as goal
+use Rattle.body_builder.proofs.builder.put_metadata.Goals.{After-slice_known-3-1}
+
+whole : (c : After-slice_known-3-1) →
+    let a = c.args in
+    Put a.buffer.now a.at (entry_bytes a.buffer.now a.at (metadata_entry a.id.0 a.metric (cut_strings a.strings.now a.lengths.now))) c.put_list.new.buffer c.put_list.result
+unfolding entry_bytes
+whole c =
+    let w = c.put_uvarint-second.ensures in
+    byte_laid _ _ _ _ c.args.id.0 c.args.metric ((string_list_bytes (cut_strings c.args.strings.now c.args.lengths.now))) c.requires.1 w.value w.buf_after _ _ c.put_list.ensures
+
+pub bounds-buffer-second : goal.bounds-buffer-second
+unfolding entry_bytes
+bounds-buffer-second c =
+    let w = c.put_uvarint-second.ensures in
+    byte_room _ _ _ _ c.args.id.0 c.args.metric ((string_list_bytes (cut_strings c.args.strings.now c.args.lengths.now))) c.requires.1 w.value w.buf_after
+
+pub overflow_add-list : goal.overflow_add-list
+unfolding entry_bytes
+overflow_add-list c =
+    let w = c.put_uvarint-second.ensures in
+    omega (arith, byte_room _ _ _ _ c.args.id.0 c.args.metric ((string_list_bytes (cut_strings c.args.strings.now c.args.lengths.now))) c.requires.1 w.value w.buf_after)
+
+pub put_list-requires : goal.put_list-requires
+unfolding entry_bytes
+put_list-requires c =
+    let w = c.put_uvarint-second.ensures in
+    (c.requires.0, byte_then _ _ _ _ c.args.id.0 c.args.metric ((string_list_bytes (cut_strings c.args.strings.now c.args.lengths.now))) c.requires.1 w.value w.buf_after)
+
+pub shape_of-buffer : goal.shape_of-buffer
+shape_of-buffer c = ap length (whole (goal.at.shape_of-buffer c).After-slice_known-3-1).1 ∙ simp length-sets
+
+pub returns : goal.returns
+returns c = let both = whole (goal.at.returns c).After-slice_known-3-1 in record { value = both.0; buffer_after = both.1 }

@@ -1,0 +1,17 @@
+-- `put_tombstone` meets its contract: three puts in a row.
+use borrow.Author.Rules.{rules, sfits_of}
+use mir.Syntax.{w64}
+use mir.Facts.{to_z-of_z}
+use Rattle.varint.specs.Varint.{varint}
+use Rattle.big_endian.specs.Fixed.{be8}
+use Rattle.body_format.specs.Building.{entry_bytes}
+use Rattle.body_builder.specs.Laws.Putting.{put_three}
+use Rattle.body_builder.proofs.builder.put_tombstone.Goals as goal
+
+pub returns : goal.returns
+unfolding entry_bytes
+returns c =
+    let a = c.args in
+    let u = c.put_be8-second.ensures in
+    let v = rw (to_z-of_z {w = w64} (sfits_of c.type_inv.min.0.1)) at c.put_varint-third.ensures in
+    let w = rw (to_z-of_z {w = w64} (sfits_of c.type_inv.max.0.1)) at c.put_varint.ensures in let both = put_three a.buffer.now _ _ _ a.at _ _ _ (be8 a.id.0) (varint a.min.0) (varint a.max.0) c.requires u.value u.buf_after v.0 v.1 w.0 w.1 in record { value = both.0; buffer_after = both.1 }

@@ -1,0 +1,18 @@
+-- `put_firsts` meets its contract: nothing, or two puts in a row.
+use borrow.Author.Rules.{rules}
+use native.Mathlib.Omega.{arith}
+use mathlib.Core.Path.{refl}
+use Rattle.wal_types.specs.Deltas.{to_bits}
+use Rattle.big_endian.specs.Fixed.{be8}
+use Rattle.body_builder_histogram.proofs.Fields.{firsts-first, firsts-none, put_two}
+use Rattle.body_builder_histogram.proofs.heads.put_firsts.Goals as goal
+
+pub returns-then-at-ne1 : goal.returns-then-at-ne1
+returns-then-at-ne1 c = let both = rw (firsts-none _ _ _ c.if-at-ne1.true) (omega arith, refl) in record { value = both.0; buffer_after = both.1 }
+
+pub returns : goal.returns
+returns c =
+    let s = c in
+    let bytes = firsts-first s.args.at s.args.id.0 (to_bits s.args.time.0) c.if-at-ne1.false in
+    let v = c.put_be8-second.ensures in
+    let w = rw c.time_bits.ensures at c.put_be8.ensures in let both = rw bytes (put_two s.args.buffer.now _ _ _ _ _ (be8 s.args.id.0) (be8 (to_bits s.args.time.0)) (rw bytes at s.requires) v.value v.buf_after w.0 w.1) in record { value = both.0; buffer_after = both.1 }

@@ -1,0 +1,22 @@
+-- `put_span_sides` meets its contract: one list, and then the other.
+use borrow.Author.Rules.{rules}
+use mathlib.Core.List.{List}
+use Rattle.body_format.specs.declared.Element.TheVariants as element
+use Rattle.body_format.specs.Histograms.{Span, Sides, join_spans}
+use Rattle.body_builder_histogram.specs.Lent.{sides}
+use Rattle.body_builder_histogram.proofs.Parts.{positive-room, negative-room, sides-laid}
+use Rattle.body_builder_histogram.proofs.spans.put_span_sides.Goals as goal
+
+pub put_span_list-negative-requires : goal.put_span_list-negative-requires
+put_span_list-negative-requires c =
+    let s = c in
+    (s.requires.0, positive-room element.Span ((sides (join_spans s.args.po.now s.args.pl.now) (join_spans s.args.mo.now s.args.ml.now))) s.args.buffer.now _ s.requires.2)
+
+pub put_span_list-requires : goal.put_span_list-requires
+put_span_list-requires c =
+    let s = c in
+    (s.requires.1, negative-room element.Span ((sides (join_spans s.args.po.now s.args.pl.now) (join_spans s.args.mo.now s.args.ml.now))) s.args.buffer.now _ s.requires.2 _ _ c.put_span_list-negative.ensures)
+
+pub returns : goal.returns
+returns c =
+    let s = c in let both = sides-laid element.Span ((sides (join_spans s.args.po.now s.args.pl.now) (join_spans s.args.mo.now s.args.ml.now))) s.args.buffer.now _ s.requires.2 _ _ c.put_span_list-negative.ensures _ _ c.put_span_list.ensures in record { value = both.0; buffer_after = both.1 }

@@ -1,0 +1,31 @@
+-- `spans_size` meets its contract; the loop's invariant as for buckets.
+use borrow.Author.Rules.{rules, sfits_of}
+use native.Mathlib.Omega.{arith}
+use Prim.Native.Nat.{◌-◌}
+use lib.ListN.{length}
+use mir.Facts.{to_z-of_z}
+use mir.Syntax.{w32}
+use Rattle.body_format.specs.declared.Element.TheVariants as element
+use Rattle.body_format.specs.Histograms.{join_spans}
+use Rattle.body_builder_histogram.proofs.Laying.{Sizing, sizing, sized_more, sized-all, length-spans, span-step}
+use Rattle.body_builder_histogram.proofs.spans.spans_size.Goals as goal
+
+pub loop-i-init : goal.loop-i-init
+loop-i-init c = sizing _ _ _
+
+pub overflow_add-total : goal.overflow_add-total
+overflow_add-total c = omega (arith, c.span_size-size.ensures.1, c.loop-i.invariant.small)
+
+pub loop-i-preserved : goal.loop-i-preserved
+loop-i-preserved c =
+    let l = c.loop-i in
+    let s = c in
+    let few = length-spans s.args.offsets.now s.args.lengths.now s.requires.0 in
+    let u = rw (to_z-of_z {w = w32} (sfits_of c.span_size-arg-1.given)) at c.span_size-size.ensures in
+    sized_more _ _ _ _ _ l.invariant _ (span-step _ _ _ s.requires.0 c.loop-i-test.true) (omega arith) _ u.0 u.1
+
+pub returns : goal.returns
+returns c =
+    let s = c in
+    let few = length-spans s.args.offsets.now s.args.lengths.now s.requires.0 in
+    rw few at (sized-all _ _ _ _ _ c.loop-i.invariant (omega arith))

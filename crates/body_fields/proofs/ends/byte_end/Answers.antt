@@ -1,0 +1,12 @@
+-- `byte_end` meets its contract: on from a place, or the fault that was met before.
+use borrow.Author.Rules.{rules}
+use Rattle.body_format.specs.Fields.{byte_at}
+use Rattle.body_fields.proofs.ends.byte_end.Goals as goal
+
+pub returns-in-At : goal.returns-in-At
+returns-in-At c =
+    rw c.in-At.is
+    (c.number_end.ensures (byte_at _ _) c.byte_at.ensures)
+
+pub returns-in-Fault : goal.returns-in-Fault
+returns-in-Fault c = rw c.in-Fault.is

@@ -1,0 +1,45 @@
+-- `entry_at` meets its contract: its type, and then the entry of a body with rows or without.
+use borrow.Author.Rules.{rules}
+use Prim.Native.Nat.{ℕ}
+use mathlib.Core.Path.{◌≡◌, sym, ap, ◌∙◌}
+use mathlib.Core.List.{List}
+use Rattle.body_format.specs.declared.EntryAnswer.TheVariants.{Refused as EntryRefused}
+use Rattle.body_format.specs.Entries.{known}
+use Rattle.body_format.specs.Reading.{entry_known, read_entry}
+use Rattle.body_reader.specs.declared.tags.BodyLayout.{BodyLayout}
+use Rattle.body_reader.specs.declared.tags.TypeRead.{TypeRead}
+use Rattle.body_reader.specs.declared.tags.TypeRead.TheVariants as type
+use Rattle.body_reader.specs.Layouts.{type_in, type_read}
+use Rattle.body_reader.proofs.Types.{by_type, entry_type}
+use Rattle.body_reader.proofs.entry_at.Goals as goal
+
+known-entry : (s : List ℕ) (p : ℕ) {r : TypeRead} {k l : BodyLayout} → r ≡ type_read s → r ≡ type.Known k → k ≡ l
+    → read_entry s p ≡ entry_known (known (type_in l)) s p
+known-entry s p e g h =
+    entry_type s p ∙ ap (by_type EntryRefused (λ k. entry_known (known k) s p)) (sym e ∙ g ∙ ap type.Known h)
+
+pub returns-in-Rows : goal.returns-in-Rows
+returns-in-Rows c =
+    let found = c in
+    let type = found in
+    c.row_entry.ensures
+    ∙ sym (known-entry _ _ type.body_type.ensures found.in-Known.is c.in-Rows.is)
+
+pub returns-in-Plain : goal.returns-in-Plain
+returns-in-Plain c =
+    let found = c in
+    let type = found in
+    c.plain_entry.ensures
+    ∙ sym (known-entry _ _ type.body_type.ensures found.in-Known.is c.in-Plain.is)
+
+pub returns-in-Histograms : goal.returns-in-Histograms
+returns-in-Histograms c =
+    let found = c in
+    let type = found in
+    c.histogram_as_entry.ensures
+    ∙ sym (known-entry _ _ type.body_type.ensures found.in-Known.is c.in-Histograms.is)
+
+pub returns-in-Refused : goal.returns-in-Refused
+returns-in-Refused c =
+    let type = c in
+    sym (entry_type _ _ ∙ ap (by_type EntryRefused _) (sym type.body_type.ensures ∙ c.in-Refused.is))

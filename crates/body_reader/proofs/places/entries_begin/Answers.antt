@@ -1,0 +1,16 @@
+-- `entries_begin` meets its contract: by rows or without.
+use borrow.Author.Rules.{rules}
+use Rattle.body_rows.specs.Laws.{rows-rows}
+use Rattle.body_plain.specs.Laws.{plain-plain}
+use Rattle.body_reader.proofs.places.entries_begin.Goals as goal
+
+pub returns-in-Rows : goal.returns-in-Rows
+returns-in-Rows c =
+    let told = c.enum_told-1.given in
+    rw (told.1, rows-rows told.0.0) c.rows_begin.ensures
+
+pub returns-in-Plain : goal.returns-in-Plain
+returns-in-Plain c = rw (c.in-Plain.is, plain-plain c.in-Plain.field-0)
+
+pub returns-in-Histograms : goal.returns-in-Histograms
+returns-in-Histograms c = rw c.in-Histograms.is c.rows_begin-in-Histograms.ensures

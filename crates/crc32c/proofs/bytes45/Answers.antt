@@ -1,0 +1,13 @@
+-- `bytes45` meets its contract: two bytes, each by its row.
+use borrow.Author.Rules.{rules}
+use Prim.Native.Nat.{◌/◌, ◌%◌}
+use Rattle.crc32c_format.specs.Method.Steps.{left_halves}
+use Rattle.crc32c.proofs.ByRows.{flipped}
+use Rattle.crc32c.proofs.bytes45.Goals as goal
+
+pub returns : goal.returns
+returns c =
+    let b = c in
+    let x = b.args.x in
+    left_halves 2 4 x (flipped 32 (x % 256) b.index.ensures c.row3.ensures)
+    (flipped 24 (x / 256) c.index-2.ensures c.row2.ensures)

@@ -1,0 +1,10 @@
+-- `load_first` meets its contract: of fewer than eight bytes, all.
+use borrow.Author.Rules.{rules}
+use native.Mathlib.Omega.{arith}
+use mathlib.Core.Path.{sym, ap, ◌∙◌}
+use lib.Seq.{take_all}
+use Rattle.crc32c_format.specs.Bytes.{little_endian}
+use Rattle.crc32c.proofs.load_first.Goals as goal
+
+pub returns-else-s-ge8 : goal.returns-else-s-ge8
+returns-else-s-ge8 c = c.load_few.ensures ∙ ap little_endian (sym (take_all 8 c.args.s.now (omega arith)))

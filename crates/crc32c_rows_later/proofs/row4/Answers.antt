@@ -1,0 +1,1029 @@
+-- Made by tools/rows, which says how and why; the gate makes it anew and compares.
+use mathlib.Core.Path.{refl}
+use Rattle.crc32c_format.specs.Crc.{bit_steps, bit_step}
+use Rattle.crc32c_rows_later.proofs.Literal.{at, last}
+use Rattle.crc32c_rows_later.proofs.row4.Goals as goal
+
+pub returns-in-0 : goal.returns-in-0
+unfolding bit_steps bit_step
+returns-in-0 c = at 40 _ 0 0x6ea2d55c c.in-0.is refl
+
+pub returns-in-1 : goal.returns-in-1
+unfolding bit_steps bit_step
+returns-in-1 c = at 40 _ 1 0x56b3baf0 c.in-1.is refl
+
+pub returns-in-2 : goal.returns-in-2
+unfolding bit_steps bit_step
+returns-in-2 c = at 40 _ 2 0x1e800a04 c.in-2.is refl
+
+pub returns-in-3 : goal.returns-in-3
+unfolding bit_steps bit_step
+returns-in-3 c = at 40 _ 3 0x269165a8 c.in-3.is refl
+
+pub returns-in-4 : goal.returns-in-4
+unfolding bit_steps bit_step
+returns-in-4 c = at 40 _ 4 0x8ee76bec c.in-4.is refl
+
+pub returns-in-5 : goal.returns-in-5
+unfolding bit_steps bit_step
+returns-in-5 c = at 40 _ 5 0xb6f60440 c.in-5.is refl
+
+pub returns-in-6 : goal.returns-in-6
+unfolding bit_steps bit_step
+returns-in-6 c = at 40 _ 6 0xfec5b4b4 c.in-6.is refl
+
+pub returns-in-7 : goal.returns-in-7
+unfolding bit_steps bit_step
+returns-in-7 c = at 40 _ 7 0xc6d4db18 c.in-7.is refl
+
+pub returns-in-8 : goal.returns-in-8
+unfolding bit_steps bit_step
+returns-in-8 c = at 40 _ 8 0xabc5decd c.in-8.is refl
+
+pub returns-in-9 : goal.returns-in-9
+unfolding bit_steps bit_step
+returns-in-9 c = at 40 _ 9 0x93d4b161 c.in-9.is refl
+
+pub returns-in-10 : goal.returns-in-10
+unfolding bit_steps bit_step
+returns-in-10 c = at 40 _ 10 0xdbe70195 c.in-10.is refl
+
+pub returns-in-11 : goal.returns-in-11
+unfolding bit_steps bit_step
+returns-in-11 c = at 40 _ 11 0xe3f66e39 c.in-11.is refl
+
+pub returns-in-12 : goal.returns-in-12
+unfolding bit_steps bit_step
+returns-in-12 c = at 40 _ 12 0x4b80607d c.in-12.is refl
+
+pub returns-in-13 : goal.returns-in-13
+unfolding bit_steps bit_step
+returns-in-13 c = at 40 _ 13 0x73910fd1 c.in-13.is refl
+
+pub returns-in-14 : goal.returns-in-14
+unfolding bit_steps bit_step
+returns-in-14 c = at 40 _ 14 0x3ba2bf25 c.in-14.is refl
+
+pub returns-in-15 : goal.returns-in-15
+unfolding bit_steps bit_step
+returns-in-15 c = at 40 _ 15 0x3b3d089 c.in-15.is refl
+
+pub returns-in-16 : goal.returns-in-16
+unfolding bit_steps bit_step
+returns-in-16 c = at 40 _ 16 0xe180b48f c.in-16.is refl
+
+pub returns-in-17 : goal.returns-in-17
+unfolding bit_steps bit_step
+returns-in-17 c = at 40 _ 17 0xd991db23 c.in-17.is refl
+
+pub returns-in-18 : goal.returns-in-18
+unfolding bit_steps bit_step
+returns-in-18 c = at 40 _ 18 0x91a26bd7 c.in-18.is refl
+
+pub returns-in-19 : goal.returns-in-19
+unfolding bit_steps bit_step
+returns-in-19 c = at 40 _ 19 0xa9b3047b c.in-19.is refl
+
+pub returns-in-20 : goal.returns-in-20
+unfolding bit_steps bit_step
+returns-in-20 c = at 40 _ 20 0x1c50a3f c.in-20.is refl
+
+pub returns-in-21 : goal.returns-in-21
+unfolding bit_steps bit_step
+returns-in-21 c = at 40 _ 21 0x39d46593 c.in-21.is refl
+
+pub returns-in-22 : goal.returns-in-22
+unfolding bit_steps bit_step
+returns-in-22 c = at 40 _ 22 0x71e7d567 c.in-22.is refl
+
+pub returns-in-23 : goal.returns-in-23
+unfolding bit_steps bit_step
+returns-in-23 c = at 40 _ 23 0x49f6bacb c.in-23.is refl
+
+pub returns-in-24 : goal.returns-in-24
+unfolding bit_steps bit_step
+returns-in-24 c = at 40 _ 24 0x24e7bf1e c.in-24.is refl
+
+pub returns-in-25 : goal.returns-in-25
+unfolding bit_steps bit_step
+returns-in-25 c = at 40 _ 25 0x1cf6d0b2 c.in-25.is refl
+
+pub returns-in-26 : goal.returns-in-26
+unfolding bit_steps bit_step
+returns-in-26 c = at 40 _ 26 0x54c56046 c.in-26.is refl
+
+pub returns-in-27 : goal.returns-in-27
+unfolding bit_steps bit_step
+returns-in-27 c = at 40 _ 27 0x6cd40fea c.in-27.is refl
+
+pub returns-in-28 : goal.returns-in-28
+unfolding bit_steps bit_step
+returns-in-28 c = at 40 _ 28 0xc4a201ae c.in-28.is refl
+
+pub returns-in-29 : goal.returns-in-29
+unfolding bit_steps bit_step
+returns-in-29 c = at 40 _ 29 0xfcb36e02 c.in-29.is refl
+
+pub returns-in-30 : goal.returns-in-30
+unfolding bit_steps bit_step
+returns-in-30 c = at 40 _ 30 0xb480def6 c.in-30.is refl
+
+pub returns-in-31 : goal.returns-in-31
+unfolding bit_steps bit_step
+returns-in-31 c = at 40 _ 31 0x8c91b15a c.in-31.is refl
+
+pub returns-in-32 : goal.returns-in-32
+unfolding bit_steps bit_step
+returns-in-32 c = at 40 _ 32 0x750a600b c.in-32.is refl
+
+pub returns-in-33 : goal.returns-in-33
+unfolding bit_steps bit_step
+returns-in-33 c = at 40 _ 33 0x4d1b0fa7 c.in-33.is refl
+
+pub returns-in-34 : goal.returns-in-34
+unfolding bit_steps bit_step
+returns-in-34 c = at 40 _ 34 0x528bf53 c.in-34.is refl
+
+pub returns-in-35 : goal.returns-in-35
+unfolding bit_steps bit_step
+returns-in-35 c = at 40 _ 35 0x3d39d0ff c.in-35.is refl
+
+pub returns-in-36 : goal.returns-in-36
+unfolding bit_steps bit_step
+returns-in-36 c = at 40 _ 36 0x954fdebb c.in-36.is refl
+
+pub returns-in-37 : goal.returns-in-37
+unfolding bit_steps bit_step
+returns-in-37 c = at 40 _ 37 0xad5eb117 c.in-37.is refl
+
+pub returns-in-38 : goal.returns-in-38
+unfolding bit_steps bit_step
+returns-in-38 c = at 40 _ 38 0xe56d01e3 c.in-38.is refl
+
+pub returns-in-39 : goal.returns-in-39
+unfolding bit_steps bit_step
+returns-in-39 c = at 40 _ 39 0xdd7c6e4f c.in-39.is refl
+
+pub returns-in-40 : goal.returns-in-40
+unfolding bit_steps bit_step
+returns-in-40 c = at 40 _ 40 0xb06d6b9a c.in-40.is refl
+
+pub returns-in-41 : goal.returns-in-41
+unfolding bit_steps bit_step
+returns-in-41 c = at 40 _ 41 0x887c0436 c.in-41.is refl
+
+pub returns-in-42 : goal.returns-in-42
+unfolding bit_steps bit_step
+returns-in-42 c = at 40 _ 42 0xc04fb4c2 c.in-42.is refl
+
+pub returns-in-43 : goal.returns-in-43
+unfolding bit_steps bit_step
+returns-in-43 c = at 40 _ 43 0xf85edb6e c.in-43.is refl
+
+pub returns-in-44 : goal.returns-in-44
+unfolding bit_steps bit_step
+returns-in-44 c = at 40 _ 44 0x5028d52a c.in-44.is refl
+
+pub returns-in-45 : goal.returns-in-45
+unfolding bit_steps bit_step
+returns-in-45 c = at 40 _ 45 0x6839ba86 c.in-45.is refl
+
+pub returns-in-46 : goal.returns-in-46
+unfolding bit_steps bit_step
+returns-in-46 c = at 40 _ 46 0x200a0a72 c.in-46.is refl
+
+pub returns-in-47 : goal.returns-in-47
+unfolding bit_steps bit_step
+returns-in-47 c = at 40 _ 47 0x181b65de c.in-47.is refl
+
+pub returns-in-48 : goal.returns-in-48
+unfolding bit_steps bit_step
+returns-in-48 c = at 40 _ 48 0xfa2801d8 c.in-48.is refl
+
+pub returns-in-49 : goal.returns-in-49
+unfolding bit_steps bit_step
+returns-in-49 c = at 40 _ 49 0xc2396e74 c.in-49.is refl
+
+pub returns-in-50 : goal.returns-in-50
+unfolding bit_steps bit_step
+returns-in-50 c = at 40 _ 50 0x8a0ade80 c.in-50.is refl
+
+pub returns-in-51 : goal.returns-in-51
+unfolding bit_steps bit_step
+returns-in-51 c = at 40 _ 51 0xb21bb12c c.in-51.is refl
+
+pub returns-in-52 : goal.returns-in-52
+unfolding bit_steps bit_step
+returns-in-52 c = at 40 _ 52 0x1a6dbf68 c.in-52.is refl
+
+pub returns-in-53 : goal.returns-in-53
+unfolding bit_steps bit_step
+returns-in-53 c = at 40 _ 53 0x227cd0c4 c.in-53.is refl
+
+pub returns-in-54 : goal.returns-in-54
+unfolding bit_steps bit_step
+returns-in-54 c = at 40 _ 54 0x6a4f6030 c.in-54.is refl
+
+pub returns-in-55 : goal.returns-in-55
+unfolding bit_steps bit_step
+returns-in-55 c = at 40 _ 55 0x525e0f9c c.in-55.is refl
+
+pub returns-in-56 : goal.returns-in-56
+unfolding bit_steps bit_step
+returns-in-56 c = at 40 _ 56 0x3f4f0a49 c.in-56.is refl
+
+pub returns-in-57 : goal.returns-in-57
+unfolding bit_steps bit_step
+returns-in-57 c = at 40 _ 57 0x75e65e5 c.in-57.is refl
+
+pub returns-in-58 : goal.returns-in-58
+unfolding bit_steps bit_step
+returns-in-58 c = at 40 _ 58 0x4f6dd511 c.in-58.is refl
+
+pub returns-in-59 : goal.returns-in-59
+unfolding bit_steps bit_step
+returns-in-59 c = at 40 _ 59 0x777cbabd c.in-59.is refl
+
+pub returns-in-60 : goal.returns-in-60
+unfolding bit_steps bit_step
+returns-in-60 c = at 40 _ 60 0xdf0ab4f9 c.in-60.is refl
+
+pub returns-in-61 : goal.returns-in-61
+unfolding bit_steps bit_step
+returns-in-61 c = at 40 _ 61 0xe71bdb55 c.in-61.is refl
+
+pub returns-in-62 : goal.returns-in-62
+unfolding bit_steps bit_step
+returns-in-62 c = at 40 _ 62 0xaf286ba1 c.in-62.is refl
+
+pub returns-in-63 : goal.returns-in-63
+unfolding bit_steps bit_step
+returns-in-63 c = at 40 _ 63 0x9739040d c.in-63.is refl
+
+pub returns-in-64 : goal.returns-in-64
+unfolding bit_steps bit_step
+returns-in-64 c = at 40 _ 64 0x59f3bff2 c.in-64.is refl
+
+pub returns-in-65 : goal.returns-in-65
+unfolding bit_steps bit_step
+returns-in-65 c = at 40 _ 65 0x61e2d05e c.in-65.is refl
+
+pub returns-in-66 : goal.returns-in-66
+unfolding bit_steps bit_step
+returns-in-66 c = at 40 _ 66 0x29d160aa c.in-66.is refl
+
+pub returns-in-67 : goal.returns-in-67
+unfolding bit_steps bit_step
+returns-in-67 c = at 40 _ 67 0x11c00f06 c.in-67.is refl
+
+pub returns-in-68 : goal.returns-in-68
+unfolding bit_steps bit_step
+returns-in-68 c = at 40 _ 68 0xb9b60142 c.in-68.is refl
+
+pub returns-in-69 : goal.returns-in-69
+unfolding bit_steps bit_step
+returns-in-69 c = at 40 _ 69 0x81a76eee c.in-69.is refl
+
+pub returns-in-70 : goal.returns-in-70
+unfolding bit_steps bit_step
+returns-in-70 c = at 40 _ 70 0xc994de1a c.in-70.is refl
+
+pub returns-in-71 : goal.returns-in-71
+unfolding bit_steps bit_step
+returns-in-71 c = at 40 _ 71 0xf185b1b6 c.in-71.is refl
+
+pub returns-in-72 : goal.returns-in-72
+unfolding bit_steps bit_step
+returns-in-72 c = at 40 _ 72 0x9c94b463 c.in-72.is refl
+
+pub returns-in-73 : goal.returns-in-73
+unfolding bit_steps bit_step
+returns-in-73 c = at 40 _ 73 0xa485dbcf c.in-73.is refl
+
+pub returns-in-74 : goal.returns-in-74
+unfolding bit_steps bit_step
+returns-in-74 c = at 40 _ 74 0xecb66b3b c.in-74.is refl
+
+pub returns-in-75 : goal.returns-in-75
+unfolding bit_steps bit_step
+returns-in-75 c = at 40 _ 75 0xd4a70497 c.in-75.is refl
+
+pub returns-in-76 : goal.returns-in-76
+unfolding bit_steps bit_step
+returns-in-76 c = at 40 _ 76 0x7cd10ad3 c.in-76.is refl
+
+pub returns-in-77 : goal.returns-in-77
+unfolding bit_steps bit_step
+returns-in-77 c = at 40 _ 77 0x44c0657f c.in-77.is refl
+
+pub returns-in-78 : goal.returns-in-78
+unfolding bit_steps bit_step
+returns-in-78 c = at 40 _ 78 0xcf3d58b c.in-78.is refl
+
+pub returns-in-79 : goal.returns-in-79
+unfolding bit_steps bit_step
+returns-in-79 c = at 40 _ 79 0x34e2ba27 c.in-79.is refl
+
+pub returns-in-80 : goal.returns-in-80
+unfolding bit_steps bit_step
+returns-in-80 c = at 40 _ 80 0xd6d1de21 c.in-80.is refl
+
+pub returns-in-81 : goal.returns-in-81
+unfolding bit_steps bit_step
+returns-in-81 c = at 40 _ 81 0xeec0b18d c.in-81.is refl
+
+pub returns-in-82 : goal.returns-in-82
+unfolding bit_steps bit_step
+returns-in-82 c = at 40 _ 82 0xa6f30179 c.in-82.is refl
+
+pub returns-in-83 : goal.returns-in-83
+unfolding bit_steps bit_step
+returns-in-83 c = at 40 _ 83 0x9ee26ed5 c.in-83.is refl
+
+pub returns-in-84 : goal.returns-in-84
+unfolding bit_steps bit_step
+returns-in-84 c = at 40 _ 84 0x36946091 c.in-84.is refl
+
+pub returns-in-85 : goal.returns-in-85
+unfolding bit_steps bit_step
+returns-in-85 c = at 40 _ 85 0xe850f3d c.in-85.is refl
+
+pub returns-in-86 : goal.returns-in-86
+unfolding bit_steps bit_step
+returns-in-86 c = at 40 _ 86 0x46b6bfc9 c.in-86.is refl
+
+pub returns-in-87 : goal.returns-in-87
+unfolding bit_steps bit_step
+returns-in-87 c = at 40 _ 87 0x7ea7d065 c.in-87.is refl
+
+pub returns-in-88 : goal.returns-in-88
+unfolding bit_steps bit_step
+returns-in-88 c = at 40 _ 88 0x13b6d5b0 c.in-88.is refl
+
+pub returns-in-89 : goal.returns-in-89
+unfolding bit_steps bit_step
+returns-in-89 c = at 40 _ 89 0x2ba7ba1c c.in-89.is refl
+
+pub returns-in-90 : goal.returns-in-90
+unfolding bit_steps bit_step
+returns-in-90 c = at 40 _ 90 0x63940ae8 c.in-90.is refl
+
+pub returns-in-91 : goal.returns-in-91
+unfolding bit_steps bit_step
+returns-in-91 c = at 40 _ 91 0x5b856544 c.in-91.is refl
+
+pub returns-in-92 : goal.returns-in-92
+unfolding bit_steps bit_step
+returns-in-92 c = at 40 _ 92 0xf3f36b00 c.in-92.is refl
+
+pub returns-in-93 : goal.returns-in-93
+unfolding bit_steps bit_step
+returns-in-93 c = at 40 _ 93 0xcbe204ac c.in-93.is refl
+
+pub returns-in-94 : goal.returns-in-94
+unfolding bit_steps bit_step
+returns-in-94 c = at 40 _ 94 0x83d1b458 c.in-94.is refl
+
+pub returns-in-95 : goal.returns-in-95
+unfolding bit_steps bit_step
+returns-in-95 c = at 40 _ 95 0xbbc0dbf4 c.in-95.is refl
+
+pub returns-in-96 : goal.returns-in-96
+unfolding bit_steps bit_step
+returns-in-96 c = at 40 _ 96 0x425b0aa5 c.in-96.is refl
+
+pub returns-in-97 : goal.returns-in-97
+unfolding bit_steps bit_step
+returns-in-97 c = at 40 _ 97 0x7a4a6509 c.in-97.is refl
+
+pub returns-in-98 : goal.returns-in-98
+unfolding bit_steps bit_step
+returns-in-98 c = at 40 _ 98 0x3279d5fd c.in-98.is refl
+
+pub returns-in-99 : goal.returns-in-99
+unfolding bit_steps bit_step
+returns-in-99 c = at 40 _ 99 0xa68ba51 c.in-99.is refl
+
+pub returns-in-100 : goal.returns-in-100
+unfolding bit_steps bit_step
+returns-in-100 c = at 40 _ 100 0xa21eb415 c.in-100.is refl
+
+pub returns-in-101 : goal.returns-in-101
+unfolding bit_steps bit_step
+returns-in-101 c = at 40 _ 101 0x9a0fdbb9 c.in-101.is refl
+
+pub returns-in-102 : goal.returns-in-102
+unfolding bit_steps bit_step
+returns-in-102 c = at 40 _ 102 0xd23c6b4d c.in-102.is refl
+
+pub returns-in-103 : goal.returns-in-103
+unfolding bit_steps bit_step
+returns-in-103 c = at 40 _ 103 0xea2d04e1 c.in-103.is refl
+
+pub returns-in-104 : goal.returns-in-104
+unfolding bit_steps bit_step
+returns-in-104 c = at 40 _ 104 0x873c0134 c.in-104.is refl
+
+pub returns-in-105 : goal.returns-in-105
+unfolding bit_steps bit_step
+returns-in-105 c = at 40 _ 105 0xbf2d6e98 c.in-105.is refl
+
+pub returns-in-106 : goal.returns-in-106
+unfolding bit_steps bit_step
+returns-in-106 c = at 40 _ 106 0xf71ede6c c.in-106.is refl
+
+pub returns-in-107 : goal.returns-in-107
+unfolding bit_steps bit_step
+returns-in-107 c = at 40 _ 107 0xcf0fb1c0 c.in-107.is refl
+
+pub returns-in-108 : goal.returns-in-108
+unfolding bit_steps bit_step
+returns-in-108 c = at 40 _ 108 0x6779bf84 c.in-108.is refl
+
+pub returns-in-109 : goal.returns-in-109
+unfolding bit_steps bit_step
+returns-in-109 c = at 40 _ 109 0x5f68d028 c.in-109.is refl
+
+pub returns-in-110 : goal.returns-in-110
+unfolding bit_steps bit_step
+returns-in-110 c = at 40 _ 110 0x175b60dc c.in-110.is refl
+
+pub returns-in-111 : goal.returns-in-111
+unfolding bit_steps bit_step
+returns-in-111 c = at 40 _ 111 0x2f4a0f70 c.in-111.is refl
+
+pub returns-in-112 : goal.returns-in-112
+unfolding bit_steps bit_step
+returns-in-112 c = at 40 _ 112 0xcd796b76 c.in-112.is refl
+
+pub returns-in-113 : goal.returns-in-113
+unfolding bit_steps bit_step
+returns-in-113 c = at 40 _ 113 0xf56804da c.in-113.is refl
+
+pub returns-in-114 : goal.returns-in-114
+unfolding bit_steps bit_step
+returns-in-114 c = at 40 _ 114 0xbd5bb42e c.in-114.is refl
+
+pub returns-in-115 : goal.returns-in-115
+unfolding bit_steps bit_step
+returns-in-115 c = at 40 _ 115 0x854adb82 c.in-115.is refl
+
+pub returns-in-116 : goal.returns-in-116
+unfolding bit_steps bit_step
+returns-in-116 c = at 40 _ 116 0x2d3cd5c6 c.in-116.is refl
+
+pub returns-in-117 : goal.returns-in-117
+unfolding bit_steps bit_step
+returns-in-117 c = at 40 _ 117 0x152dba6a c.in-117.is refl
+
+pub returns-in-118 : goal.returns-in-118
+unfolding bit_steps bit_step
+returns-in-118 c = at 40 _ 118 0x5d1e0a9e c.in-118.is refl
+
+pub returns-in-119 : goal.returns-in-119
+unfolding bit_steps bit_step
+returns-in-119 c = at 40 _ 119 0x650f6532 c.in-119.is refl
+
+pub returns-in-120 : goal.returns-in-120
+unfolding bit_steps bit_step
+returns-in-120 c = at 40 _ 120 0x81e60e7 c.in-120.is refl
+
+pub returns-in-121 : goal.returns-in-121
+unfolding bit_steps bit_step
+returns-in-121 c = at 40 _ 121 0x300f0f4b c.in-121.is refl
+
+pub returns-in-122 : goal.returns-in-122
+unfolding bit_steps bit_step
+returns-in-122 c = at 40 _ 122 0x783cbfbf c.in-122.is refl
+
+pub returns-in-123 : goal.returns-in-123
+unfolding bit_steps bit_step
+returns-in-123 c = at 40 _ 123 0x402dd013 c.in-123.is refl
+
+pub returns-in-124 : goal.returns-in-124
+unfolding bit_steps bit_step
+returns-in-124 c = at 40 _ 124 0xe85bde57 c.in-124.is refl
+
+pub returns-in-125 : goal.returns-in-125
+unfolding bit_steps bit_step
+returns-in-125 c = at 40 _ 125 0xd04ab1fb c.in-125.is refl
+
+pub returns-in-126 : goal.returns-in-126
+unfolding bit_steps bit_step
+returns-in-126 c = at 40 _ 126 0x9879010f c.in-126.is refl
+
+pub returns-in-127 : goal.returns-in-127
+unfolding bit_steps bit_step
+returns-in-127 c = at 40 _ 127 0xa0686ea3 c.in-127.is refl
+
+pub returns-in-128 : goal.returns-in-128
+unfolding bit_steps bit_step
+returns-in-128 c = at 40 _ 128 0x0 c.in-128.is refl
+
+pub returns-in-129 : goal.returns-in-129
+unfolding bit_steps bit_step
+returns-in-129 c = at 40 _ 129 0x38116fac c.in-129.is refl
+
+pub returns-in-130 : goal.returns-in-130
+unfolding bit_steps bit_step
+returns-in-130 c = at 40 _ 130 0x7022df58 c.in-130.is refl
+
+pub returns-in-131 : goal.returns-in-131
+unfolding bit_steps bit_step
+returns-in-131 c = at 40 _ 131 0x4833b0f4 c.in-131.is refl
+
+pub returns-in-132 : goal.returns-in-132
+unfolding bit_steps bit_step
+returns-in-132 c = at 40 _ 132 0xe045beb0 c.in-132.is refl
+
+pub returns-in-133 : goal.returns-in-133
+unfolding bit_steps bit_step
+returns-in-133 c = at 40 _ 133 0xd854d11c c.in-133.is refl
+
+pub returns-in-134 : goal.returns-in-134
+unfolding bit_steps bit_step
+returns-in-134 c = at 40 _ 134 0x906761e8 c.in-134.is refl
+
+pub returns-in-135 : goal.returns-in-135
+unfolding bit_steps bit_step
+returns-in-135 c = at 40 _ 135 0xa8760e44 c.in-135.is refl
+
+pub returns-in-136 : goal.returns-in-136
+unfolding bit_steps bit_step
+returns-in-136 c = at 40 _ 136 0xc5670b91 c.in-136.is refl
+
+pub returns-in-137 : goal.returns-in-137
+unfolding bit_steps bit_step
+returns-in-137 c = at 40 _ 137 0xfd76643d c.in-137.is refl
+
+pub returns-in-138 : goal.returns-in-138
+unfolding bit_steps bit_step
+returns-in-138 c = at 40 _ 138 0xb545d4c9 c.in-138.is refl
+
+pub returns-in-139 : goal.returns-in-139
+unfolding bit_steps bit_step
+returns-in-139 c = at 40 _ 139 0x8d54bb65 c.in-139.is refl
+
+pub returns-in-140 : goal.returns-in-140
+unfolding bit_steps bit_step
+returns-in-140 c = at 40 _ 140 0x2522b521 c.in-140.is refl
+
+pub returns-in-141 : goal.returns-in-141
+unfolding bit_steps bit_step
+returns-in-141 c = at 40 _ 141 0x1d33da8d c.in-141.is refl
+
+pub returns-in-142 : goal.returns-in-142
+unfolding bit_steps bit_step
+returns-in-142 c = at 40 _ 142 0x55006a79 c.in-142.is refl
+
+pub returns-in-143 : goal.returns-in-143
+unfolding bit_steps bit_step
+returns-in-143 c = at 40 _ 143 0x6d1105d5 c.in-143.is refl
+
+pub returns-in-144 : goal.returns-in-144
+unfolding bit_steps bit_step
+returns-in-144 c = at 40 _ 144 0x8f2261d3 c.in-144.is refl
+
+pub returns-in-145 : goal.returns-in-145
+unfolding bit_steps bit_step
+returns-in-145 c = at 40 _ 145 0xb7330e7f c.in-145.is refl
+
+pub returns-in-146 : goal.returns-in-146
+unfolding bit_steps bit_step
+returns-in-146 c = at 40 _ 146 0xff00be8b c.in-146.is refl
+
+pub returns-in-147 : goal.returns-in-147
+unfolding bit_steps bit_step
+returns-in-147 c = at 40 _ 147 0xc711d127 c.in-147.is refl
+
+pub returns-in-148 : goal.returns-in-148
+unfolding bit_steps bit_step
+returns-in-148 c = at 40 _ 148 0x6f67df63 c.in-148.is refl
+
+pub returns-in-149 : goal.returns-in-149
+unfolding bit_steps bit_step
+returns-in-149 c = at 40 _ 149 0x5776b0cf c.in-149.is refl
+
+pub returns-in-150 : goal.returns-in-150
+unfolding bit_steps bit_step
+returns-in-150 c = at 40 _ 150 0x1f45003b c.in-150.is refl
+
+pub returns-in-151 : goal.returns-in-151
+unfolding bit_steps bit_step
+returns-in-151 c = at 40 _ 151 0x27546f97 c.in-151.is refl
+
+pub returns-in-152 : goal.returns-in-152
+unfolding bit_steps bit_step
+returns-in-152 c = at 40 _ 152 0x4a456a42 c.in-152.is refl
+
+pub returns-in-153 : goal.returns-in-153
+unfolding bit_steps bit_step
+returns-in-153 c = at 40 _ 153 0x725405ee c.in-153.is refl
+
+pub returns-in-154 : goal.returns-in-154
+unfolding bit_steps bit_step
+returns-in-154 c = at 40 _ 154 0x3a67b51a c.in-154.is refl
+
+pub returns-in-155 : goal.returns-in-155
+unfolding bit_steps bit_step
+returns-in-155 c = at 40 _ 155 0x276dab6 c.in-155.is refl
+
+pub returns-in-156 : goal.returns-in-156
+unfolding bit_steps bit_step
+returns-in-156 c = at 40 _ 156 0xaa00d4f2 c.in-156.is refl
+
+pub returns-in-157 : goal.returns-in-157
+unfolding bit_steps bit_step
+returns-in-157 c = at 40 _ 157 0x9211bb5e c.in-157.is refl
+
+pub returns-in-158 : goal.returns-in-158
+unfolding bit_steps bit_step
+returns-in-158 c = at 40 _ 158 0xda220baa c.in-158.is refl
+
+pub returns-in-159 : goal.returns-in-159
+unfolding bit_steps bit_step
+returns-in-159 c = at 40 _ 159 0xe2336406 c.in-159.is refl
+
+pub returns-in-160 : goal.returns-in-160
+unfolding bit_steps bit_step
+returns-in-160 c = at 40 _ 160 0x1ba8b557 c.in-160.is refl
+
+pub returns-in-161 : goal.returns-in-161
+unfolding bit_steps bit_step
+returns-in-161 c = at 40 _ 161 0x23b9dafb c.in-161.is refl
+
+pub returns-in-162 : goal.returns-in-162
+unfolding bit_steps bit_step
+returns-in-162 c = at 40 _ 162 0x6b8a6a0f c.in-162.is refl
+
+pub returns-in-163 : goal.returns-in-163
+unfolding bit_steps bit_step
+returns-in-163 c = at 40 _ 163 0x539b05a3 c.in-163.is refl
+
+pub returns-in-164 : goal.returns-in-164
+unfolding bit_steps bit_step
+returns-in-164 c = at 40 _ 164 0xfbed0be7 c.in-164.is refl
+
+pub returns-in-165 : goal.returns-in-165
+unfolding bit_steps bit_step
+returns-in-165 c = at 40 _ 165 0xc3fc644b c.in-165.is refl
+
+pub returns-in-166 : goal.returns-in-166
+unfolding bit_steps bit_step
+returns-in-166 c = at 40 _ 166 0x8bcfd4bf c.in-166.is refl
+
+pub returns-in-167 : goal.returns-in-167
+unfolding bit_steps bit_step
+returns-in-167 c = at 40 _ 167 0xb3debb13 c.in-167.is refl
+
+pub returns-in-168 : goal.returns-in-168
+unfolding bit_steps bit_step
+returns-in-168 c = at 40 _ 168 0xdecfbec6 c.in-168.is refl
+
+pub returns-in-169 : goal.returns-in-169
+unfolding bit_steps bit_step
+returns-in-169 c = at 40 _ 169 0xe6ded16a c.in-169.is refl
+
+pub returns-in-170 : goal.returns-in-170
+unfolding bit_steps bit_step
+returns-in-170 c = at 40 _ 170 0xaeed619e c.in-170.is refl
+
+pub returns-in-171 : goal.returns-in-171
+unfolding bit_steps bit_step
+returns-in-171 c = at 40 _ 171 0x96fc0e32 c.in-171.is refl
+
+pub returns-in-172 : goal.returns-in-172
+unfolding bit_steps bit_step
+returns-in-172 c = at 40 _ 172 0x3e8a0076 c.in-172.is refl
+
+pub returns-in-173 : goal.returns-in-173
+unfolding bit_steps bit_step
+returns-in-173 c = at 40 _ 173 0x69b6fda c.in-173.is refl
+
+pub returns-in-174 : goal.returns-in-174
+unfolding bit_steps bit_step
+returns-in-174 c = at 40 _ 174 0x4ea8df2e c.in-174.is refl
+
+pub returns-in-175 : goal.returns-in-175
+unfolding bit_steps bit_step
+returns-in-175 c = at 40 _ 175 0x76b9b082 c.in-175.is refl
+
+pub returns-in-176 : goal.returns-in-176
+unfolding bit_steps bit_step
+returns-in-176 c = at 40 _ 176 0x948ad484 c.in-176.is refl
+
+pub returns-in-177 : goal.returns-in-177
+unfolding bit_steps bit_step
+returns-in-177 c = at 40 _ 177 0xac9bbb28 c.in-177.is refl
+
+pub returns-in-178 : goal.returns-in-178
+unfolding bit_steps bit_step
+returns-in-178 c = at 40 _ 178 0xe4a80bdc c.in-178.is refl
+
+pub returns-in-179 : goal.returns-in-179
+unfolding bit_steps bit_step
+returns-in-179 c = at 40 _ 179 0xdcb96470 c.in-179.is refl
+
+pub returns-in-180 : goal.returns-in-180
+unfolding bit_steps bit_step
+returns-in-180 c = at 40 _ 180 0x74cf6a34 c.in-180.is refl
+
+pub returns-in-181 : goal.returns-in-181
+unfolding bit_steps bit_step
+returns-in-181 c = at 40 _ 181 0x4cde0598 c.in-181.is refl
+
+pub returns-in-182 : goal.returns-in-182
+unfolding bit_steps bit_step
+returns-in-182 c = at 40 _ 182 0x4edb56c c.in-182.is refl
+
+pub returns-in-183 : goal.returns-in-183
+unfolding bit_steps bit_step
+returns-in-183 c = at 40 _ 183 0x3cfcdac0 c.in-183.is refl
+
+pub returns-in-184 : goal.returns-in-184
+unfolding bit_steps bit_step
+returns-in-184 c = at 40 _ 184 0x51eddf15 c.in-184.is refl
+
+pub returns-in-185 : goal.returns-in-185
+unfolding bit_steps bit_step
+returns-in-185 c = at 40 _ 185 0x69fcb0b9 c.in-185.is refl
+
+pub returns-in-186 : goal.returns-in-186
+unfolding bit_steps bit_step
+returns-in-186 c = at 40 _ 186 0x21cf004d c.in-186.is refl
+
+pub returns-in-187 : goal.returns-in-187
+unfolding bit_steps bit_step
+returns-in-187 c = at 40 _ 187 0x19de6fe1 c.in-187.is refl
+
+pub returns-in-188 : goal.returns-in-188
+unfolding bit_steps bit_step
+returns-in-188 c = at 40 _ 188 0xb1a861a5 c.in-188.is refl
+
+pub returns-in-189 : goal.returns-in-189
+unfolding bit_steps bit_step
+returns-in-189 c = at 40 _ 189 0x89b90e09 c.in-189.is refl
+
+pub returns-in-190 : goal.returns-in-190
+unfolding bit_steps bit_step
+returns-in-190 c = at 40 _ 190 0xc18abefd c.in-190.is refl
+
+pub returns-in-191 : goal.returns-in-191
+unfolding bit_steps bit_step
+returns-in-191 c = at 40 _ 191 0xf99bd151 c.in-191.is refl
+
+pub returns-in-192 : goal.returns-in-192
+unfolding bit_steps bit_step
+returns-in-192 c = at 40 _ 192 0x37516aae c.in-192.is refl
+
+pub returns-in-193 : goal.returns-in-193
+unfolding bit_steps bit_step
+returns-in-193 c = at 40 _ 193 0xf400502 c.in-193.is refl
+
+pub returns-in-194 : goal.returns-in-194
+unfolding bit_steps bit_step
+returns-in-194 c = at 40 _ 194 0x4773b5f6 c.in-194.is refl
+
+pub returns-in-195 : goal.returns-in-195
+unfolding bit_steps bit_step
+returns-in-195 c = at 40 _ 195 0x7f62da5a c.in-195.is refl
+
+pub returns-in-196 : goal.returns-in-196
+unfolding bit_steps bit_step
+returns-in-196 c = at 40 _ 196 0xd714d41e c.in-196.is refl
+
+pub returns-in-197 : goal.returns-in-197
+unfolding bit_steps bit_step
+returns-in-197 c = at 40 _ 197 0xef05bbb2 c.in-197.is refl
+
+pub returns-in-198 : goal.returns-in-198
+unfolding bit_steps bit_step
+returns-in-198 c = at 40 _ 198 0xa7360b46 c.in-198.is refl
+
+pub returns-in-199 : goal.returns-in-199
+unfolding bit_steps bit_step
+returns-in-199 c = at 40 _ 199 0x9f2764ea c.in-199.is refl
+
+pub returns-in-200 : goal.returns-in-200
+unfolding bit_steps bit_step
+returns-in-200 c = at 40 _ 200 0xf236613f c.in-200.is refl
+
+pub returns-in-201 : goal.returns-in-201
+unfolding bit_steps bit_step
+returns-in-201 c = at 40 _ 201 0xca270e93 c.in-201.is refl
+
+pub returns-in-202 : goal.returns-in-202
+unfolding bit_steps bit_step
+returns-in-202 c = at 40 _ 202 0x8214be67 c.in-202.is refl
+
+pub returns-in-203 : goal.returns-in-203
+unfolding bit_steps bit_step
+returns-in-203 c = at 40 _ 203 0xba05d1cb c.in-203.is refl
+
+pub returns-in-204 : goal.returns-in-204
+unfolding bit_steps bit_step
+returns-in-204 c = at 40 _ 204 0x1273df8f c.in-204.is refl
+
+pub returns-in-205 : goal.returns-in-205
+unfolding bit_steps bit_step
+returns-in-205 c = at 40 _ 205 0x2a62b023 c.in-205.is refl
+
+pub returns-in-206 : goal.returns-in-206
+unfolding bit_steps bit_step
+returns-in-206 c = at 40 _ 206 0x625100d7 c.in-206.is refl
+
+pub returns-in-207 : goal.returns-in-207
+unfolding bit_steps bit_step
+returns-in-207 c = at 40 _ 207 0x5a406f7b c.in-207.is refl
+
+pub returns-in-208 : goal.returns-in-208
+unfolding bit_steps bit_step
+returns-in-208 c = at 40 _ 208 0xb8730b7d c.in-208.is refl
+
+pub returns-in-209 : goal.returns-in-209
+unfolding bit_steps bit_step
+returns-in-209 c = at 40 _ 209 0x806264d1 c.in-209.is refl
+
+pub returns-in-210 : goal.returns-in-210
+unfolding bit_steps bit_step
+returns-in-210 c = at 40 _ 210 0xc851d425 c.in-210.is refl
+
+pub returns-in-211 : goal.returns-in-211
+unfolding bit_steps bit_step
+returns-in-211 c = at 40 _ 211 0xf040bb89 c.in-211.is refl
+
+pub returns-in-212 : goal.returns-in-212
+unfolding bit_steps bit_step
+returns-in-212 c = at 40 _ 212 0x5836b5cd c.in-212.is refl
+
+pub returns-in-213 : goal.returns-in-213
+unfolding bit_steps bit_step
+returns-in-213 c = at 40 _ 213 0x6027da61 c.in-213.is refl
+
+pub returns-in-214 : goal.returns-in-214
+unfolding bit_steps bit_step
+returns-in-214 c = at 40 _ 214 0x28146a95 c.in-214.is refl
+
+pub returns-in-215 : goal.returns-in-215
+unfolding bit_steps bit_step
+returns-in-215 c = at 40 _ 215 0x10050539 c.in-215.is refl
+
+pub returns-in-216 : goal.returns-in-216
+unfolding bit_steps bit_step
+returns-in-216 c = at 40 _ 216 0x7d1400ec c.in-216.is refl
+
+pub returns-in-217 : goal.returns-in-217
+unfolding bit_steps bit_step
+returns-in-217 c = at 40 _ 217 0x45056f40 c.in-217.is refl
+
+pub returns-in-218 : goal.returns-in-218
+unfolding bit_steps bit_step
+returns-in-218 c = at 40 _ 218 0xd36dfb4 c.in-218.is refl
+
+pub returns-in-219 : goal.returns-in-219
+unfolding bit_steps bit_step
+returns-in-219 c = at 40 _ 219 0x3527b018 c.in-219.is refl
+
+pub returns-in-220 : goal.returns-in-220
+unfolding bit_steps bit_step
+returns-in-220 c = at 40 _ 220 0x9d51be5c c.in-220.is refl
+
+pub returns-in-221 : goal.returns-in-221
+unfolding bit_steps bit_step
+returns-in-221 c = at 40 _ 221 0xa540d1f0 c.in-221.is refl
+
+pub returns-in-222 : goal.returns-in-222
+unfolding bit_steps bit_step
+returns-in-222 c = at 40 _ 222 0xed736104 c.in-222.is refl
+
+pub returns-in-223 : goal.returns-in-223
+unfolding bit_steps bit_step
+returns-in-223 c = at 40 _ 223 0xd5620ea8 c.in-223.is refl
+
+pub returns-in-224 : goal.returns-in-224
+unfolding bit_steps bit_step
+returns-in-224 c = at 40 _ 224 0x2cf9dff9 c.in-224.is refl
+
+pub returns-in-225 : goal.returns-in-225
+unfolding bit_steps bit_step
+returns-in-225 c = at 40 _ 225 0x14e8b055 c.in-225.is refl
+
+pub returns-in-226 : goal.returns-in-226
+unfolding bit_steps bit_step
+returns-in-226 c = at 40 _ 226 0x5cdb00a1 c.in-226.is refl
+
+pub returns-in-227 : goal.returns-in-227
+unfolding bit_steps bit_step
+returns-in-227 c = at 40 _ 227 0x64ca6f0d c.in-227.is refl
+
+pub returns-in-228 : goal.returns-in-228
+unfolding bit_steps bit_step
+returns-in-228 c = at 40 _ 228 0xccbc6149 c.in-228.is refl
+
+pub returns-in-229 : goal.returns-in-229
+unfolding bit_steps bit_step
+returns-in-229 c = at 40 _ 229 0xf4ad0ee5 c.in-229.is refl
+
+pub returns-in-230 : goal.returns-in-230
+unfolding bit_steps bit_step
+returns-in-230 c = at 40 _ 230 0xbc9ebe11 c.in-230.is refl
+
+pub returns-in-231 : goal.returns-in-231
+unfolding bit_steps bit_step
+returns-in-231 c = at 40 _ 231 0x848fd1bd c.in-231.is refl
+
+pub returns-in-232 : goal.returns-in-232
+unfolding bit_steps bit_step
+returns-in-232 c = at 40 _ 232 0xe99ed468 c.in-232.is refl
+
+pub returns-in-233 : goal.returns-in-233
+unfolding bit_steps bit_step
+returns-in-233 c = at 40 _ 233 0xd18fbbc4 c.in-233.is refl
+
+pub returns-in-234 : goal.returns-in-234
+unfolding bit_steps bit_step
+returns-in-234 c = at 40 _ 234 0x99bc0b30 c.in-234.is refl
+
+pub returns-in-235 : goal.returns-in-235
+unfolding bit_steps bit_step
+returns-in-235 c = at 40 _ 235 0xa1ad649c c.in-235.is refl
+
+pub returns-in-236 : goal.returns-in-236
+unfolding bit_steps bit_step
+returns-in-236 c = at 40 _ 236 0x9db6ad8 c.in-236.is refl
+
+pub returns-in-237 : goal.returns-in-237
+unfolding bit_steps bit_step
+returns-in-237 c = at 40 _ 237 0x31ca0574 c.in-237.is refl
+
+pub returns-in-238 : goal.returns-in-238
+unfolding bit_steps bit_step
+returns-in-238 c = at 40 _ 238 0x79f9b580 c.in-238.is refl
+
+pub returns-in-239 : goal.returns-in-239
+unfolding bit_steps bit_step
+returns-in-239 c = at 40 _ 239 0x41e8da2c c.in-239.is refl
+
+pub returns-in-240 : goal.returns-in-240
+unfolding bit_steps bit_step
+returns-in-240 c = at 40 _ 240 0xa3dbbe2a c.in-240.is refl
+
+pub returns-in-241 : goal.returns-in-241
+unfolding bit_steps bit_step
+returns-in-241 c = at 40 _ 241 0x9bcad186 c.in-241.is refl
+
+pub returns-in-242 : goal.returns-in-242
+unfolding bit_steps bit_step
+returns-in-242 c = at 40 _ 242 0xd3f96172 c.in-242.is refl
+
+pub returns-in-243 : goal.returns-in-243
+unfolding bit_steps bit_step
+returns-in-243 c = at 40 _ 243 0xebe80ede c.in-243.is refl
+
+pub returns-in-244 : goal.returns-in-244
+unfolding bit_steps bit_step
+returns-in-244 c = at 40 _ 244 0x439e009a c.in-244.is refl
+
+pub returns-in-245 : goal.returns-in-245
+unfolding bit_steps bit_step
+returns-in-245 c = at 40 _ 245 0x7b8f6f36 c.in-245.is refl
+
+pub returns-in-246 : goal.returns-in-246
+unfolding bit_steps bit_step
+returns-in-246 c = at 40 _ 246 0x33bcdfc2 c.in-246.is refl
+
+pub returns-in-247 : goal.returns-in-247
+unfolding bit_steps bit_step
+returns-in-247 c = at 40 _ 247 0xbadb06e c.in-247.is refl
+
+pub returns-in-248 : goal.returns-in-248
+unfolding bit_steps bit_step
+returns-in-248 c = at 40 _ 248 0x66bcb5bb c.in-248.is refl
+
+pub returns-in-249 : goal.returns-in-249
+unfolding bit_steps bit_step
+returns-in-249 c = at 40 _ 249 0x5eadda17 c.in-249.is refl
+
+pub returns-in-250 : goal.returns-in-250
+unfolding bit_steps bit_step
+returns-in-250 c = at 40 _ 250 0x169e6ae3 c.in-250.is refl
+
+pub returns-in-251 : goal.returns-in-251
+unfolding bit_steps bit_step
+returns-in-251 c = at 40 _ 251 0x2e8f054f c.in-251.is refl
+
+pub returns-in-252 : goal.returns-in-252
+unfolding bit_steps bit_step
+returns-in-252 c = at 40 _ 252 0x86f90b0b c.in-252.is refl
+
+pub returns-in-253 : goal.returns-in-253
+unfolding bit_steps bit_step
+returns-in-253 c = at 40 _ 253 0xbee864a7 c.in-253.is refl
+
+pub returns-in-254 : goal.returns-in-254
+unfolding bit_steps bit_step
+returns-in-254 c = at 40 _ 254 0xf6dbd453 c.in-254.is refl
+
+pub returns-in_default : goal.returns-in_default
+unfolding bit_steps bit_step
+returns-in_default c = at 40 c.args.n 255 0xcecabbff (last c.args.n c.ranges.n.fits c.in_default.in_default-own.rest) refl

@@ -1,0 +1,1029 @@
+-- Made by tools/rows, which says how and why; the gate makes it anew and compares.
+use mathlib.Core.Path.{refl}
+use Rattle.crc32c_format.specs.Crc.{bit_steps, bit_step}
+use Rattle.crc32c_rows_later.proofs.Literal.{at, last}
+use Rattle.crc32c_rows_later.proofs.row5.Goals as goal
+
+pub returns-in-0 : goal.returns-in-0
+unfolding bit_steps bit_step
+returns-in-0 c = at 48 _ 0 0x1c08b7d6 c.in-0.is refl
+
+pub returns-in-1 : goal.returns-in-1
+unfolding bit_steps bit_step
+returns-in-1 c = at 48 _ 1 0xf338dccf c.in-1.is refl
+
+pub returns-in-2 : goal.returns-in-2
+unfolding bit_steps bit_step
+returns-in-2 c = at 48 _ 2 0xc7841715 c.in-2.is refl
+
+pub returns-in-3 : goal.returns-in-3
+unfolding bit_steps bit_step
+returns-in-3 c = at 48 _ 3 0x28b47c0c c.in-3.is refl
+
+pub returns-in-4 : goal.returns-in-4
+unfolding bit_steps bit_step
+returns-in-4 c = at 48 _ 4 0xaefd80a1 c.in-4.is refl
+
+pub returns-in-5 : goal.returns-in-5
+unfolding bit_steps bit_step
+returns-in-5 c = at 48 _ 5 0x41cdebb8 c.in-5.is refl
+
+pub returns-in-6 : goal.returns-in-6
+unfolding bit_steps bit_step
+returns-in-6 c = at 48 _ 6 0x75712062 c.in-6.is refl
+
+pub returns-in-7 : goal.returns-in-7
+unfolding bit_steps bit_step
+returns-in-7 c = at 48 _ 7 0x9a414b7b c.in-7.is refl
+
+pub returns-in-8 : goal.returns-in-8
+unfolding bit_steps bit_step
+returns-in-8 c = at 48 _ 8 0x7c0eafc9 c.in-8.is refl
+
+pub returns-in-9 : goal.returns-in-9
+unfolding bit_steps bit_step
+returns-in-9 c = at 48 _ 9 0x933ec4d0 c.in-9.is refl
+
+pub returns-in-10 : goal.returns-in-10
+unfolding bit_steps bit_step
+returns-in-10 c = at 48 _ 10 0xa7820f0a c.in-10.is refl
+
+pub returns-in-11 : goal.returns-in-11
+unfolding bit_steps bit_step
+returns-in-11 c = at 48 _ 11 0x48b26413 c.in-11.is refl
+
+pub returns-in-12 : goal.returns-in-12
+unfolding bit_steps bit_step
+returns-in-12 c = at 48 _ 12 0xcefb98be c.in-12.is refl
+
+pub returns-in-13 : goal.returns-in-13
+unfolding bit_steps bit_step
+returns-in-13 c = at 48 _ 13 0x21cbf3a7 c.in-13.is refl
+
+pub returns-in-14 : goal.returns-in-14
+unfolding bit_steps bit_step
+returns-in-14 c = at 48 _ 14 0x1577387d c.in-14.is refl
+
+pub returns-in-15 : goal.returns-in-15
+unfolding bit_steps bit_step
+returns-in-15 c = at 48 _ 15 0xfa475364 c.in-15.is refl
+
+pub returns-in-16 : goal.returns-in-16
+unfolding bit_steps bit_step
+returns-in-16 c = at 48 _ 16 0xdc0487e8 c.in-16.is refl
+
+pub returns-in-17 : goal.returns-in-17
+unfolding bit_steps bit_step
+returns-in-17 c = at 48 _ 17 0x3334ecf1 c.in-17.is refl
+
+pub returns-in-18 : goal.returns-in-18
+unfolding bit_steps bit_step
+returns-in-18 c = at 48 _ 18 0x788272b c.in-18.is refl
+
+pub returns-in-19 : goal.returns-in-19
+unfolding bit_steps bit_step
+returns-in-19 c = at 48 _ 19 0xe8b84c32 c.in-19.is refl
+
+pub returns-in-20 : goal.returns-in-20
+unfolding bit_steps bit_step
+returns-in-20 c = at 48 _ 20 0x6ef1b09f c.in-20.is refl
+
+pub returns-in-21 : goal.returns-in-21
+unfolding bit_steps bit_step
+returns-in-21 c = at 48 _ 21 0x81c1db86 c.in-21.is refl
+
+pub returns-in-22 : goal.returns-in-22
+unfolding bit_steps bit_step
+returns-in-22 c = at 48 _ 22 0xb57d105c c.in-22.is refl
+
+pub returns-in-23 : goal.returns-in-23
+unfolding bit_steps bit_step
+returns-in-23 c = at 48 _ 23 0x5a4d7b45 c.in-23.is refl
+
+pub returns-in-24 : goal.returns-in-24
+unfolding bit_steps bit_step
+returns-in-24 c = at 48 _ 24 0xbc029ff7 c.in-24.is refl
+
+pub returns-in-25 : goal.returns-in-25
+unfolding bit_steps bit_step
+returns-in-25 c = at 48 _ 25 0x5332f4ee c.in-25.is refl
+
+pub returns-in-26 : goal.returns-in-26
+unfolding bit_steps bit_step
+returns-in-26 c = at 48 _ 26 0x678e3f34 c.in-26.is refl
+
+pub returns-in-27 : goal.returns-in-27
+unfolding bit_steps bit_step
+returns-in-27 c = at 48 _ 27 0x88be542d c.in-27.is refl
+
+pub returns-in-28 : goal.returns-in-28
+unfolding bit_steps bit_step
+returns-in-28 c = at 48 _ 28 0xef7a880 c.in-28.is refl
+
+pub returns-in-29 : goal.returns-in-29
+unfolding bit_steps bit_step
+returns-in-29 c = at 48 _ 29 0xe1c7c399 c.in-29.is refl
+
+pub returns-in-30 : goal.returns-in-30
+unfolding bit_steps bit_step
+returns-in-30 c = at 48 _ 30 0xd57b0843 c.in-30.is refl
+
+pub returns-in-31 : goal.returns-in-31
+unfolding bit_steps bit_step
+returns-in-31 c = at 48 _ 31 0x3a4b635a c.in-31.is refl
+
+pub returns-in-32 : goal.returns-in-32
+unfolding bit_steps bit_step
+returns-in-32 c = at 48 _ 32 0x99fca15b c.in-32.is refl
+
+pub returns-in-33 : goal.returns-in-33
+unfolding bit_steps bit_step
+returns-in-33 c = at 48 _ 33 0x76ccca42 c.in-33.is refl
+
+pub returns-in-34 : goal.returns-in-34
+unfolding bit_steps bit_step
+returns-in-34 c = at 48 _ 34 0x42700198 c.in-34.is refl
+
+pub returns-in-35 : goal.returns-in-35
+unfolding bit_steps bit_step
+returns-in-35 c = at 48 _ 35 0xad406a81 c.in-35.is refl
+
+pub returns-in-36 : goal.returns-in-36
+unfolding bit_steps bit_step
+returns-in-36 c = at 48 _ 36 0x2b09962c c.in-36.is refl
+
+pub returns-in-37 : goal.returns-in-37
+unfolding bit_steps bit_step
+returns-in-37 c = at 48 _ 37 0xc439fd35 c.in-37.is refl
+
+pub returns-in-38 : goal.returns-in-38
+unfolding bit_steps bit_step
+returns-in-38 c = at 48 _ 38 0xf08536ef c.in-38.is refl
+
+pub returns-in-39 : goal.returns-in-39
+unfolding bit_steps bit_step
+returns-in-39 c = at 48 _ 39 0x1fb55df6 c.in-39.is refl
+
+pub returns-in-40 : goal.returns-in-40
+unfolding bit_steps bit_step
+returns-in-40 c = at 48 _ 40 0xf9fab944 c.in-40.is refl
+
+pub returns-in-41 : goal.returns-in-41
+unfolding bit_steps bit_step
+returns-in-41 c = at 48 _ 41 0x16cad25d c.in-41.is refl
+
+pub returns-in-42 : goal.returns-in-42
+unfolding bit_steps bit_step
+returns-in-42 c = at 48 _ 42 0x22761987 c.in-42.is refl
+
+pub returns-in-43 : goal.returns-in-43
+unfolding bit_steps bit_step
+returns-in-43 c = at 48 _ 43 0xcd46729e c.in-43.is refl
+
+pub returns-in-44 : goal.returns-in-44
+unfolding bit_steps bit_step
+returns-in-44 c = at 48 _ 44 0x4b0f8e33 c.in-44.is refl
+
+pub returns-in-45 : goal.returns-in-45
+unfolding bit_steps bit_step
+returns-in-45 c = at 48 _ 45 0xa43fe52a c.in-45.is refl
+
+pub returns-in-46 : goal.returns-in-46
+unfolding bit_steps bit_step
+returns-in-46 c = at 48 _ 46 0x90832ef0 c.in-46.is refl
+
+pub returns-in-47 : goal.returns-in-47
+unfolding bit_steps bit_step
+returns-in-47 c = at 48 _ 47 0x7fb345e9 c.in-47.is refl
+
+pub returns-in-48 : goal.returns-in-48
+unfolding bit_steps bit_step
+returns-in-48 c = at 48 _ 48 0x59f09165 c.in-48.is refl
+
+pub returns-in-49 : goal.returns-in-49
+unfolding bit_steps bit_step
+returns-in-49 c = at 48 _ 49 0xb6c0fa7c c.in-49.is refl
+
+pub returns-in-50 : goal.returns-in-50
+unfolding bit_steps bit_step
+returns-in-50 c = at 48 _ 50 0x827c31a6 c.in-50.is refl
+
+pub returns-in-51 : goal.returns-in-51
+unfolding bit_steps bit_step
+returns-in-51 c = at 48 _ 51 0x6d4c5abf c.in-51.is refl
+
+pub returns-in-52 : goal.returns-in-52
+unfolding bit_steps bit_step
+returns-in-52 c = at 48 _ 52 0xeb05a612 c.in-52.is refl
+
+pub returns-in-53 : goal.returns-in-53
+unfolding bit_steps bit_step
+returns-in-53 c = at 48 _ 53 0x435cd0b c.in-53.is refl
+
+pub returns-in-54 : goal.returns-in-54
+unfolding bit_steps bit_step
+returns-in-54 c = at 48 _ 54 0x308906d1 c.in-54.is refl
+
+pub returns-in-55 : goal.returns-in-55
+unfolding bit_steps bit_step
+returns-in-55 c = at 48 _ 55 0xdfb96dc8 c.in-55.is refl
+
+pub returns-in-56 : goal.returns-in-56
+unfolding bit_steps bit_step
+returns-in-56 c = at 48 _ 56 0x39f6897a c.in-56.is refl
+
+pub returns-in-57 : goal.returns-in-57
+unfolding bit_steps bit_step
+returns-in-57 c = at 48 _ 57 0xd6c6e263 c.in-57.is refl
+
+pub returns-in-58 : goal.returns-in-58
+unfolding bit_steps bit_step
+returns-in-58 c = at 48 _ 58 0xe27a29b9 c.in-58.is refl
+
+pub returns-in-59 : goal.returns-in-59
+unfolding bit_steps bit_step
+returns-in-59 c = at 48 _ 59 0xd4a42a0 c.in-59.is refl
+
+pub returns-in-60 : goal.returns-in-60
+unfolding bit_steps bit_step
+returns-in-60 c = at 48 _ 60 0x8b03be0d c.in-60.is refl
+
+pub returns-in-61 : goal.returns-in-61
+unfolding bit_steps bit_step
+returns-in-61 c = at 48 _ 61 0x6433d514 c.in-61.is refl
+
+pub returns-in-62 : goal.returns-in-62
+unfolding bit_steps bit_step
+returns-in-62 c = at 48 _ 62 0x508f1ece c.in-62.is refl
+
+pub returns-in-63 : goal.returns-in-63
+unfolding bit_steps bit_step
+returns-in-63 c = at 48 _ 63 0xbfbf75d7 c.in-63.is refl
+
+pub returns-in-64 : goal.returns-in-64
+unfolding bit_steps bit_step
+returns-in-64 c = at 48 _ 64 0x120cec3d c.in-64.is refl
+
+pub returns-in-65 : goal.returns-in-65
+unfolding bit_steps bit_step
+returns-in-65 c = at 48 _ 65 0xfd3c8724 c.in-65.is refl
+
+pub returns-in-66 : goal.returns-in-66
+unfolding bit_steps bit_step
+returns-in-66 c = at 48 _ 66 0xc9804cfe c.in-66.is refl
+
+pub returns-in-67 : goal.returns-in-67
+unfolding bit_steps bit_step
+returns-in-67 c = at 48 _ 67 0x26b027e7 c.in-67.is refl
+
+pub returns-in-68 : goal.returns-in-68
+unfolding bit_steps bit_step
+returns-in-68 c = at 48 _ 68 0xa0f9db4a c.in-68.is refl
+
+pub returns-in-69 : goal.returns-in-69
+unfolding bit_steps bit_step
+returns-in-69 c = at 48 _ 69 0x4fc9b053 c.in-69.is refl
+
+pub returns-in-70 : goal.returns-in-70
+unfolding bit_steps bit_step
+returns-in-70 c = at 48 _ 70 0x7b757b89 c.in-70.is refl
+
+pub returns-in-71 : goal.returns-in-71
+unfolding bit_steps bit_step
+returns-in-71 c = at 48 _ 71 0x94451090 c.in-71.is refl
+
+pub returns-in-72 : goal.returns-in-72
+unfolding bit_steps bit_step
+returns-in-72 c = at 48 _ 72 0x720af422 c.in-72.is refl
+
+pub returns-in-73 : goal.returns-in-73
+unfolding bit_steps bit_step
+returns-in-73 c = at 48 _ 73 0x9d3a9f3b c.in-73.is refl
+
+pub returns-in-74 : goal.returns-in-74
+unfolding bit_steps bit_step
+returns-in-74 c = at 48 _ 74 0xa98654e1 c.in-74.is refl
+
+pub returns-in-75 : goal.returns-in-75
+unfolding bit_steps bit_step
+returns-in-75 c = at 48 _ 75 0x46b63ff8 c.in-75.is refl
+
+pub returns-in-76 : goal.returns-in-76
+unfolding bit_steps bit_step
+returns-in-76 c = at 48 _ 76 0xc0ffc355 c.in-76.is refl
+
+pub returns-in-77 : goal.returns-in-77
+unfolding bit_steps bit_step
+returns-in-77 c = at 48 _ 77 0x2fcfa84c c.in-77.is refl
+
+pub returns-in-78 : goal.returns-in-78
+unfolding bit_steps bit_step
+returns-in-78 c = at 48 _ 78 0x1b736396 c.in-78.is refl
+
+pub returns-in-79 : goal.returns-in-79
+unfolding bit_steps bit_step
+returns-in-79 c = at 48 _ 79 0xf443088f c.in-79.is refl
+
+pub returns-in-80 : goal.returns-in-80
+unfolding bit_steps bit_step
+returns-in-80 c = at 48 _ 80 0xd200dc03 c.in-80.is refl
+
+pub returns-in-81 : goal.returns-in-81
+unfolding bit_steps bit_step
+returns-in-81 c = at 48 _ 81 0x3d30b71a c.in-81.is refl
+
+pub returns-in-82 : goal.returns-in-82
+unfolding bit_steps bit_step
+returns-in-82 c = at 48 _ 82 0x98c7cc0 c.in-82.is refl
+
+pub returns-in-83 : goal.returns-in-83
+unfolding bit_steps bit_step
+returns-in-83 c = at 48 _ 83 0xe6bc17d9 c.in-83.is refl
+
+pub returns-in-84 : goal.returns-in-84
+unfolding bit_steps bit_step
+returns-in-84 c = at 48 _ 84 0x60f5eb74 c.in-84.is refl
+
+pub returns-in-85 : goal.returns-in-85
+unfolding bit_steps bit_step
+returns-in-85 c = at 48 _ 85 0x8fc5806d c.in-85.is refl
+
+pub returns-in-86 : goal.returns-in-86
+unfolding bit_steps bit_step
+returns-in-86 c = at 48 _ 86 0xbb794bb7 c.in-86.is refl
+
+pub returns-in-87 : goal.returns-in-87
+unfolding bit_steps bit_step
+returns-in-87 c = at 48 _ 87 0x544920ae c.in-87.is refl
+
+pub returns-in-88 : goal.returns-in-88
+unfolding bit_steps bit_step
+returns-in-88 c = at 48 _ 88 0xb206c41c c.in-88.is refl
+
+pub returns-in-89 : goal.returns-in-89
+unfolding bit_steps bit_step
+returns-in-89 c = at 48 _ 89 0x5d36af05 c.in-89.is refl
+
+pub returns-in-90 : goal.returns-in-90
+unfolding bit_steps bit_step
+returns-in-90 c = at 48 _ 90 0x698a64df c.in-90.is refl
+
+pub returns-in-91 : goal.returns-in-91
+unfolding bit_steps bit_step
+returns-in-91 c = at 48 _ 91 0x86ba0fc6 c.in-91.is refl
+
+pub returns-in-92 : goal.returns-in-92
+unfolding bit_steps bit_step
+returns-in-92 c = at 48 _ 92 0xf3f36b c.in-92.is refl
+
+pub returns-in-93 : goal.returns-in-93
+unfolding bit_steps bit_step
+returns-in-93 c = at 48 _ 93 0xefc39872 c.in-93.is refl
+
+pub returns-in-94 : goal.returns-in-94
+unfolding bit_steps bit_step
+returns-in-94 c = at 48 _ 94 0xdb7f53a8 c.in-94.is refl
+
+pub returns-in-95 : goal.returns-in-95
+unfolding bit_steps bit_step
+returns-in-95 c = at 48 _ 95 0x344f38b1 c.in-95.is refl
+
+pub returns-in-96 : goal.returns-in-96
+unfolding bit_steps bit_step
+returns-in-96 c = at 48 _ 96 0x97f8fab0 c.in-96.is refl
+
+pub returns-in-97 : goal.returns-in-97
+unfolding bit_steps bit_step
+returns-in-97 c = at 48 _ 97 0x78c891a9 c.in-97.is refl
+
+pub returns-in-98 : goal.returns-in-98
+unfolding bit_steps bit_step
+returns-in-98 c = at 48 _ 98 0x4c745a73 c.in-98.is refl
+
+pub returns-in-99 : goal.returns-in-99
+unfolding bit_steps bit_step
+returns-in-99 c = at 48 _ 99 0xa344316a c.in-99.is refl
+
+pub returns-in-100 : goal.returns-in-100
+unfolding bit_steps bit_step
+returns-in-100 c = at 48 _ 100 0x250dcdc7 c.in-100.is refl
+
+pub returns-in-101 : goal.returns-in-101
+unfolding bit_steps bit_step
+returns-in-101 c = at 48 _ 101 0xca3da6de c.in-101.is refl
+
+pub returns-in-102 : goal.returns-in-102
+unfolding bit_steps bit_step
+returns-in-102 c = at 48 _ 102 0xfe816d04 c.in-102.is refl
+
+pub returns-in-103 : goal.returns-in-103
+unfolding bit_steps bit_step
+returns-in-103 c = at 48 _ 103 0x11b1061d c.in-103.is refl
+
+pub returns-in-104 : goal.returns-in-104
+unfolding bit_steps bit_step
+returns-in-104 c = at 48 _ 104 0xf7fee2af c.in-104.is refl
+
+pub returns-in-105 : goal.returns-in-105
+unfolding bit_steps bit_step
+returns-in-105 c = at 48 _ 105 0x18ce89b6 c.in-105.is refl
+
+pub returns-in-106 : goal.returns-in-106
+unfolding bit_steps bit_step
+returns-in-106 c = at 48 _ 106 0x2c72426c c.in-106.is refl
+
+pub returns-in-107 : goal.returns-in-107
+unfolding bit_steps bit_step
+returns-in-107 c = at 48 _ 107 0xc3422975 c.in-107.is refl
+
+pub returns-in-108 : goal.returns-in-108
+unfolding bit_steps bit_step
+returns-in-108 c = at 48 _ 108 0x450bd5d8 c.in-108.is refl
+
+pub returns-in-109 : goal.returns-in-109
+unfolding bit_steps bit_step
+returns-in-109 c = at 48 _ 109 0xaa3bbec1 c.in-109.is refl
+
+pub returns-in-110 : goal.returns-in-110
+unfolding bit_steps bit_step
+returns-in-110 c = at 48 _ 110 0x9e87751b c.in-110.is refl
+
+pub returns-in-111 : goal.returns-in-111
+unfolding bit_steps bit_step
+returns-in-111 c = at 48 _ 111 0x71b71e02 c.in-111.is refl
+
+pub returns-in-112 : goal.returns-in-112
+unfolding bit_steps bit_step
+returns-in-112 c = at 48 _ 112 0x57f4ca8e c.in-112.is refl
+
+pub returns-in-113 : goal.returns-in-113
+unfolding bit_steps bit_step
+returns-in-113 c = at 48 _ 113 0xb8c4a197 c.in-113.is refl
+
+pub returns-in-114 : goal.returns-in-114
+unfolding bit_steps bit_step
+returns-in-114 c = at 48 _ 114 0x8c786a4d c.in-114.is refl
+
+pub returns-in-115 : goal.returns-in-115
+unfolding bit_steps bit_step
+returns-in-115 c = at 48 _ 115 0x63480154 c.in-115.is refl
+
+pub returns-in-116 : goal.returns-in-116
+unfolding bit_steps bit_step
+returns-in-116 c = at 48 _ 116 0xe501fdf9 c.in-116.is refl
+
+pub returns-in-117 : goal.returns-in-117
+unfolding bit_steps bit_step
+returns-in-117 c = at 48 _ 117 0xa3196e0 c.in-117.is refl
+
+pub returns-in-118 : goal.returns-in-118
+unfolding bit_steps bit_step
+returns-in-118 c = at 48 _ 118 0x3e8d5d3a c.in-118.is refl
+
+pub returns-in-119 : goal.returns-in-119
+unfolding bit_steps bit_step
+returns-in-119 c = at 48 _ 119 0xd1bd3623 c.in-119.is refl
+
+pub returns-in-120 : goal.returns-in-120
+unfolding bit_steps bit_step
+returns-in-120 c = at 48 _ 120 0x37f2d291 c.in-120.is refl
+
+pub returns-in-121 : goal.returns-in-121
+unfolding bit_steps bit_step
+returns-in-121 c = at 48 _ 121 0xd8c2b988 c.in-121.is refl
+
+pub returns-in-122 : goal.returns-in-122
+unfolding bit_steps bit_step
+returns-in-122 c = at 48 _ 122 0xec7e7252 c.in-122.is refl
+
+pub returns-in-123 : goal.returns-in-123
+unfolding bit_steps bit_step
+returns-in-123 c = at 48 _ 123 0x34e194b c.in-123.is refl
+
+pub returns-in-124 : goal.returns-in-124
+unfolding bit_steps bit_step
+returns-in-124 c = at 48 _ 124 0x8507e5e6 c.in-124.is refl
+
+pub returns-in-125 : goal.returns-in-125
+unfolding bit_steps bit_step
+returns-in-125 c = at 48 _ 125 0x6a378eff c.in-125.is refl
+
+pub returns-in-126 : goal.returns-in-126
+unfolding bit_steps bit_step
+returns-in-126 c = at 48 _ 126 0x5e8b4525 c.in-126.is refl
+
+pub returns-in-127 : goal.returns-in-127
+unfolding bit_steps bit_step
+returns-in-127 c = at 48 _ 127 0xb1bb2e3c c.in-127.is refl
+
+pub returns-in-128 : goal.returns-in-128
+unfolding bit_steps bit_step
+returns-in-128 c = at 48 _ 128 0x0 c.in-128.is refl
+
+pub returns-in-129 : goal.returns-in-129
+unfolding bit_steps bit_step
+returns-in-129 c = at 48 _ 129 0xef306b19 c.in-129.is refl
+
+pub returns-in-130 : goal.returns-in-130
+unfolding bit_steps bit_step
+returns-in-130 c = at 48 _ 130 0xdb8ca0c3 c.in-130.is refl
+
+pub returns-in-131 : goal.returns-in-131
+unfolding bit_steps bit_step
+returns-in-131 c = at 48 _ 131 0x34bccbda c.in-131.is refl
+
+pub returns-in-132 : goal.returns-in-132
+unfolding bit_steps bit_step
+returns-in-132 c = at 48 _ 132 0xb2f53777 c.in-132.is refl
+
+pub returns-in-133 : goal.returns-in-133
+unfolding bit_steps bit_step
+returns-in-133 c = at 48 _ 133 0x5dc55c6e c.in-133.is refl
+
+pub returns-in-134 : goal.returns-in-134
+unfolding bit_steps bit_step
+returns-in-134 c = at 48 _ 134 0x697997b4 c.in-134.is refl
+
+pub returns-in-135 : goal.returns-in-135
+unfolding bit_steps bit_step
+returns-in-135 c = at 48 _ 135 0x8649fcad c.in-135.is refl
+
+pub returns-in-136 : goal.returns-in-136
+unfolding bit_steps bit_step
+returns-in-136 c = at 48 _ 136 0x6006181f c.in-136.is refl
+
+pub returns-in-137 : goal.returns-in-137
+unfolding bit_steps bit_step
+returns-in-137 c = at 48 _ 137 0x8f367306 c.in-137.is refl
+
+pub returns-in-138 : goal.returns-in-138
+unfolding bit_steps bit_step
+returns-in-138 c = at 48 _ 138 0xbb8ab8dc c.in-138.is refl
+
+pub returns-in-139 : goal.returns-in-139
+unfolding bit_steps bit_step
+returns-in-139 c = at 48 _ 139 0x54bad3c5 c.in-139.is refl
+
+pub returns-in-140 : goal.returns-in-140
+unfolding bit_steps bit_step
+returns-in-140 c = at 48 _ 140 0xd2f32f68 c.in-140.is refl
+
+pub returns-in-141 : goal.returns-in-141
+unfolding bit_steps bit_step
+returns-in-141 c = at 48 _ 141 0x3dc34471 c.in-141.is refl
+
+pub returns-in-142 : goal.returns-in-142
+unfolding bit_steps bit_step
+returns-in-142 c = at 48 _ 142 0x97f8fab c.in-142.is refl
+
+pub returns-in-143 : goal.returns-in-143
+unfolding bit_steps bit_step
+returns-in-143 c = at 48 _ 143 0xe64fe4b2 c.in-143.is refl
+
+pub returns-in-144 : goal.returns-in-144
+unfolding bit_steps bit_step
+returns-in-144 c = at 48 _ 144 0xc00c303e c.in-144.is refl
+
+pub returns-in-145 : goal.returns-in-145
+unfolding bit_steps bit_step
+returns-in-145 c = at 48 _ 145 0x2f3c5b27 c.in-145.is refl
+
+pub returns-in-146 : goal.returns-in-146
+unfolding bit_steps bit_step
+returns-in-146 c = at 48 _ 146 0x1b8090fd c.in-146.is refl
+
+pub returns-in-147 : goal.returns-in-147
+unfolding bit_steps bit_step
+returns-in-147 c = at 48 _ 147 0xf4b0fbe4 c.in-147.is refl
+
+pub returns-in-148 : goal.returns-in-148
+unfolding bit_steps bit_step
+returns-in-148 c = at 48 _ 148 0x72f90749 c.in-148.is refl
+
+pub returns-in-149 : goal.returns-in-149
+unfolding bit_steps bit_step
+returns-in-149 c = at 48 _ 149 0x9dc96c50 c.in-149.is refl
+
+pub returns-in-150 : goal.returns-in-150
+unfolding bit_steps bit_step
+returns-in-150 c = at 48 _ 150 0xa975a78a c.in-150.is refl
+
+pub returns-in-151 : goal.returns-in-151
+unfolding bit_steps bit_step
+returns-in-151 c = at 48 _ 151 0x4645cc93 c.in-151.is refl
+
+pub returns-in-152 : goal.returns-in-152
+unfolding bit_steps bit_step
+returns-in-152 c = at 48 _ 152 0xa00a2821 c.in-152.is refl
+
+pub returns-in-153 : goal.returns-in-153
+unfolding bit_steps bit_step
+returns-in-153 c = at 48 _ 153 0x4f3a4338 c.in-153.is refl
+
+pub returns-in-154 : goal.returns-in-154
+unfolding bit_steps bit_step
+returns-in-154 c = at 48 _ 154 0x7b8688e2 c.in-154.is refl
+
+pub returns-in-155 : goal.returns-in-155
+unfolding bit_steps bit_step
+returns-in-155 c = at 48 _ 155 0x94b6e3fb c.in-155.is refl
+
+pub returns-in-156 : goal.returns-in-156
+unfolding bit_steps bit_step
+returns-in-156 c = at 48 _ 156 0x12ff1f56 c.in-156.is refl
+
+pub returns-in-157 : goal.returns-in-157
+unfolding bit_steps bit_step
+returns-in-157 c = at 48 _ 157 0xfdcf744f c.in-157.is refl
+
+pub returns-in-158 : goal.returns-in-158
+unfolding bit_steps bit_step
+returns-in-158 c = at 48 _ 158 0xc973bf95 c.in-158.is refl
+
+pub returns-in-159 : goal.returns-in-159
+unfolding bit_steps bit_step
+returns-in-159 c = at 48 _ 159 0x2643d48c c.in-159.is refl
+
+pub returns-in-160 : goal.returns-in-160
+unfolding bit_steps bit_step
+returns-in-160 c = at 48 _ 160 0x85f4168d c.in-160.is refl
+
+pub returns-in-161 : goal.returns-in-161
+unfolding bit_steps bit_step
+returns-in-161 c = at 48 _ 161 0x6ac47d94 c.in-161.is refl
+
+pub returns-in-162 : goal.returns-in-162
+unfolding bit_steps bit_step
+returns-in-162 c = at 48 _ 162 0x5e78b64e c.in-162.is refl
+
+pub returns-in-163 : goal.returns-in-163
+unfolding bit_steps bit_step
+returns-in-163 c = at 48 _ 163 0xb148dd57 c.in-163.is refl
+
+pub returns-in-164 : goal.returns-in-164
+unfolding bit_steps bit_step
+returns-in-164 c = at 48 _ 164 0x370121fa c.in-164.is refl
+
+pub returns-in-165 : goal.returns-in-165
+unfolding bit_steps bit_step
+returns-in-165 c = at 48 _ 165 0xd8314ae3 c.in-165.is refl
+
+pub returns-in-166 : goal.returns-in-166
+unfolding bit_steps bit_step
+returns-in-166 c = at 48 _ 166 0xec8d8139 c.in-166.is refl
+
+pub returns-in-167 : goal.returns-in-167
+unfolding bit_steps bit_step
+returns-in-167 c = at 48 _ 167 0x3bdea20 c.in-167.is refl
+
+pub returns-in-168 : goal.returns-in-168
+unfolding bit_steps bit_step
+returns-in-168 c = at 48 _ 168 0xe5f20e92 c.in-168.is refl
+
+pub returns-in-169 : goal.returns-in-169
+unfolding bit_steps bit_step
+returns-in-169 c = at 48 _ 169 0xac2658b c.in-169.is refl
+
+pub returns-in-170 : goal.returns-in-170
+unfolding bit_steps bit_step
+returns-in-170 c = at 48 _ 170 0x3e7eae51 c.in-170.is refl
+
+pub returns-in-171 : goal.returns-in-171
+unfolding bit_steps bit_step
+returns-in-171 c = at 48 _ 171 0xd14ec548 c.in-171.is refl
+
+pub returns-in-172 : goal.returns-in-172
+unfolding bit_steps bit_step
+returns-in-172 c = at 48 _ 172 0x570739e5 c.in-172.is refl
+
+pub returns-in-173 : goal.returns-in-173
+unfolding bit_steps bit_step
+returns-in-173 c = at 48 _ 173 0xb83752fc c.in-173.is refl
+
+pub returns-in-174 : goal.returns-in-174
+unfolding bit_steps bit_step
+returns-in-174 c = at 48 _ 174 0x8c8b9926 c.in-174.is refl
+
+pub returns-in-175 : goal.returns-in-175
+unfolding bit_steps bit_step
+returns-in-175 c = at 48 _ 175 0x63bbf23f c.in-175.is refl
+
+pub returns-in-176 : goal.returns-in-176
+unfolding bit_steps bit_step
+returns-in-176 c = at 48 _ 176 0x45f826b3 c.in-176.is refl
+
+pub returns-in-177 : goal.returns-in-177
+unfolding bit_steps bit_step
+returns-in-177 c = at 48 _ 177 0xaac84daa c.in-177.is refl
+
+pub returns-in-178 : goal.returns-in-178
+unfolding bit_steps bit_step
+returns-in-178 c = at 48 _ 178 0x9e748670 c.in-178.is refl
+
+pub returns-in-179 : goal.returns-in-179
+unfolding bit_steps bit_step
+returns-in-179 c = at 48 _ 179 0x7144ed69 c.in-179.is refl
+
+pub returns-in-180 : goal.returns-in-180
+unfolding bit_steps bit_step
+returns-in-180 c = at 48 _ 180 0xf70d11c4 c.in-180.is refl
+
+pub returns-in-181 : goal.returns-in-181
+unfolding bit_steps bit_step
+returns-in-181 c = at 48 _ 181 0x183d7add c.in-181.is refl
+
+pub returns-in-182 : goal.returns-in-182
+unfolding bit_steps bit_step
+returns-in-182 c = at 48 _ 182 0x2c81b107 c.in-182.is refl
+
+pub returns-in-183 : goal.returns-in-183
+unfolding bit_steps bit_step
+returns-in-183 c = at 48 _ 183 0xc3b1da1e c.in-183.is refl
+
+pub returns-in-184 : goal.returns-in-184
+unfolding bit_steps bit_step
+returns-in-184 c = at 48 _ 184 0x25fe3eac c.in-184.is refl
+
+pub returns-in-185 : goal.returns-in-185
+unfolding bit_steps bit_step
+returns-in-185 c = at 48 _ 185 0xcace55b5 c.in-185.is refl
+
+pub returns-in-186 : goal.returns-in-186
+unfolding bit_steps bit_step
+returns-in-186 c = at 48 _ 186 0xfe729e6f c.in-186.is refl
+
+pub returns-in-187 : goal.returns-in-187
+unfolding bit_steps bit_step
+returns-in-187 c = at 48 _ 187 0x1142f576 c.in-187.is refl
+
+pub returns-in-188 : goal.returns-in-188
+unfolding bit_steps bit_step
+returns-in-188 c = at 48 _ 188 0x970b09db c.in-188.is refl
+
+pub returns-in-189 : goal.returns-in-189
+unfolding bit_steps bit_step
+returns-in-189 c = at 48 _ 189 0x783b62c2 c.in-189.is refl
+
+pub returns-in-190 : goal.returns-in-190
+unfolding bit_steps bit_step
+returns-in-190 c = at 48 _ 190 0x4c87a918 c.in-190.is refl
+
+pub returns-in-191 : goal.returns-in-191
+unfolding bit_steps bit_step
+returns-in-191 c = at 48 _ 191 0xa3b7c201 c.in-191.is refl
+
+pub returns-in-192 : goal.returns-in-192
+unfolding bit_steps bit_step
+returns-in-192 c = at 48 _ 192 0xe045beb c.in-192.is refl
+
+pub returns-in-193 : goal.returns-in-193
+unfolding bit_steps bit_step
+returns-in-193 c = at 48 _ 193 0xe13430f2 c.in-193.is refl
+
+pub returns-in-194 : goal.returns-in-194
+unfolding bit_steps bit_step
+returns-in-194 c = at 48 _ 194 0xd588fb28 c.in-194.is refl
+
+pub returns-in-195 : goal.returns-in-195
+unfolding bit_steps bit_step
+returns-in-195 c = at 48 _ 195 0x3ab89031 c.in-195.is refl
+
+pub returns-in-196 : goal.returns-in-196
+unfolding bit_steps bit_step
+returns-in-196 c = at 48 _ 196 0xbcf16c9c c.in-196.is refl
+
+pub returns-in-197 : goal.returns-in-197
+unfolding bit_steps bit_step
+returns-in-197 c = at 48 _ 197 0x53c10785 c.in-197.is refl
+
+pub returns-in-198 : goal.returns-in-198
+unfolding bit_steps bit_step
+returns-in-198 c = at 48 _ 198 0x677dcc5f c.in-198.is refl
+
+pub returns-in-199 : goal.returns-in-199
+unfolding bit_steps bit_step
+returns-in-199 c = at 48 _ 199 0x884da746 c.in-199.is refl
+
+pub returns-in-200 : goal.returns-in-200
+unfolding bit_steps bit_step
+returns-in-200 c = at 48 _ 200 0x6e0243f4 c.in-200.is refl
+
+pub returns-in-201 : goal.returns-in-201
+unfolding bit_steps bit_step
+returns-in-201 c = at 48 _ 201 0x813228ed c.in-201.is refl
+
+pub returns-in-202 : goal.returns-in-202
+unfolding bit_steps bit_step
+returns-in-202 c = at 48 _ 202 0xb58ee337 c.in-202.is refl
+
+pub returns-in-203 : goal.returns-in-203
+unfolding bit_steps bit_step
+returns-in-203 c = at 48 _ 203 0x5abe882e c.in-203.is refl
+
+pub returns-in-204 : goal.returns-in-204
+unfolding bit_steps bit_step
+returns-in-204 c = at 48 _ 204 0xdcf77483 c.in-204.is refl
+
+pub returns-in-205 : goal.returns-in-205
+unfolding bit_steps bit_step
+returns-in-205 c = at 48 _ 205 0x33c71f9a c.in-205.is refl
+
+pub returns-in-206 : goal.returns-in-206
+unfolding bit_steps bit_step
+returns-in-206 c = at 48 _ 206 0x77bd440 c.in-206.is refl
+
+pub returns-in-207 : goal.returns-in-207
+unfolding bit_steps bit_step
+returns-in-207 c = at 48 _ 207 0xe84bbf59 c.in-207.is refl
+
+pub returns-in-208 : goal.returns-in-208
+unfolding bit_steps bit_step
+returns-in-208 c = at 48 _ 208 0xce086bd5 c.in-208.is refl
+
+pub returns-in-209 : goal.returns-in-209
+unfolding bit_steps bit_step
+returns-in-209 c = at 48 _ 209 0x213800cc c.in-209.is refl
+
+pub returns-in-210 : goal.returns-in-210
+unfolding bit_steps bit_step
+returns-in-210 c = at 48 _ 210 0x1584cb16 c.in-210.is refl
+
+pub returns-in-211 : goal.returns-in-211
+unfolding bit_steps bit_step
+returns-in-211 c = at 48 _ 211 0xfab4a00f c.in-211.is refl
+
+pub returns-in-212 : goal.returns-in-212
+unfolding bit_steps bit_step
+returns-in-212 c = at 48 _ 212 0x7cfd5ca2 c.in-212.is refl
+
+pub returns-in-213 : goal.returns-in-213
+unfolding bit_steps bit_step
+returns-in-213 c = at 48 _ 213 0x93cd37bb c.in-213.is refl
+
+pub returns-in-214 : goal.returns-in-214
+unfolding bit_steps bit_step
+returns-in-214 c = at 48 _ 214 0xa771fc61 c.in-214.is refl
+
+pub returns-in-215 : goal.returns-in-215
+unfolding bit_steps bit_step
+returns-in-215 c = at 48 _ 215 0x48419778 c.in-215.is refl
+
+pub returns-in-216 : goal.returns-in-216
+unfolding bit_steps bit_step
+returns-in-216 c = at 48 _ 216 0xae0e73ca c.in-216.is refl
+
+pub returns-in-217 : goal.returns-in-217
+unfolding bit_steps bit_step
+returns-in-217 c = at 48 _ 217 0x413e18d3 c.in-217.is refl
+
+pub returns-in-218 : goal.returns-in-218
+unfolding bit_steps bit_step
+returns-in-218 c = at 48 _ 218 0x7582d309 c.in-218.is refl
+
+pub returns-in-219 : goal.returns-in-219
+unfolding bit_steps bit_step
+returns-in-219 c = at 48 _ 219 0x9ab2b810 c.in-219.is refl
+
+pub returns-in-220 : goal.returns-in-220
+unfolding bit_steps bit_step
+returns-in-220 c = at 48 _ 220 0x1cfb44bd c.in-220.is refl
+
+pub returns-in-221 : goal.returns-in-221
+unfolding bit_steps bit_step
+returns-in-221 c = at 48 _ 221 0xf3cb2fa4 c.in-221.is refl
+
+pub returns-in-222 : goal.returns-in-222
+unfolding bit_steps bit_step
+returns-in-222 c = at 48 _ 222 0xc777e47e c.in-222.is refl
+
+pub returns-in-223 : goal.returns-in-223
+unfolding bit_steps bit_step
+returns-in-223 c = at 48 _ 223 0x28478f67 c.in-223.is refl
+
+pub returns-in-224 : goal.returns-in-224
+unfolding bit_steps bit_step
+returns-in-224 c = at 48 _ 224 0x8bf04d66 c.in-224.is refl
+
+pub returns-in-225 : goal.returns-in-225
+unfolding bit_steps bit_step
+returns-in-225 c = at 48 _ 225 0x64c0267f c.in-225.is refl
+
+pub returns-in-226 : goal.returns-in-226
+unfolding bit_steps bit_step
+returns-in-226 c = at 48 _ 226 0x507ceda5 c.in-226.is refl
+
+pub returns-in-227 : goal.returns-in-227
+unfolding bit_steps bit_step
+returns-in-227 c = at 48 _ 227 0xbf4c86bc c.in-227.is refl
+
+pub returns-in-228 : goal.returns-in-228
+unfolding bit_steps bit_step
+returns-in-228 c = at 48 _ 228 0x39057a11 c.in-228.is refl
+
+pub returns-in-229 : goal.returns-in-229
+unfolding bit_steps bit_step
+returns-in-229 c = at 48 _ 229 0xd6351108 c.in-229.is refl
+
+pub returns-in-230 : goal.returns-in-230
+unfolding bit_steps bit_step
+returns-in-230 c = at 48 _ 230 0xe289dad2 c.in-230.is refl
+
+pub returns-in-231 : goal.returns-in-231
+unfolding bit_steps bit_step
+returns-in-231 c = at 48 _ 231 0xdb9b1cb c.in-231.is refl
+
+pub returns-in-232 : goal.returns-in-232
+unfolding bit_steps bit_step
+returns-in-232 c = at 48 _ 232 0xebf65579 c.in-232.is refl
+
+pub returns-in-233 : goal.returns-in-233
+unfolding bit_steps bit_step
+returns-in-233 c = at 48 _ 233 0x4c63e60 c.in-233.is refl
+
+pub returns-in-234 : goal.returns-in-234
+unfolding bit_steps bit_step
+returns-in-234 c = at 48 _ 234 0x307af5ba c.in-234.is refl
+
+pub returns-in-235 : goal.returns-in-235
+unfolding bit_steps bit_step
+returns-in-235 c = at 48 _ 235 0xdf4a9ea3 c.in-235.is refl
+
+pub returns-in-236 : goal.returns-in-236
+unfolding bit_steps bit_step
+returns-in-236 c = at 48 _ 236 0x5903620e c.in-236.is refl
+
+pub returns-in-237 : goal.returns-in-237
+unfolding bit_steps bit_step
+returns-in-237 c = at 48 _ 237 0xb6330917 c.in-237.is refl
+
+pub returns-in-238 : goal.returns-in-238
+unfolding bit_steps bit_step
+returns-in-238 c = at 48 _ 238 0x828fc2cd c.in-238.is refl
+
+pub returns-in-239 : goal.returns-in-239
+unfolding bit_steps bit_step
+returns-in-239 c = at 48 _ 239 0x6dbfa9d4 c.in-239.is refl
+
+pub returns-in-240 : goal.returns-in-240
+unfolding bit_steps bit_step
+returns-in-240 c = at 48 _ 240 0x4bfc7d58 c.in-240.is refl
+
+pub returns-in-241 : goal.returns-in-241
+unfolding bit_steps bit_step
+returns-in-241 c = at 48 _ 241 0xa4cc1641 c.in-241.is refl
+
+pub returns-in-242 : goal.returns-in-242
+unfolding bit_steps bit_step
+returns-in-242 c = at 48 _ 242 0x9070dd9b c.in-242.is refl
+
+pub returns-in-243 : goal.returns-in-243
+unfolding bit_steps bit_step
+returns-in-243 c = at 48 _ 243 0x7f40b682 c.in-243.is refl
+
+pub returns-in-244 : goal.returns-in-244
+unfolding bit_steps bit_step
+returns-in-244 c = at 48 _ 244 0xf9094a2f c.in-244.is refl
+
+pub returns-in-245 : goal.returns-in-245
+unfolding bit_steps bit_step
+returns-in-245 c = at 48 _ 245 0x16392136 c.in-245.is refl
+
+pub returns-in-246 : goal.returns-in-246
+unfolding bit_steps bit_step
+returns-in-246 c = at 48 _ 246 0x2285eaec c.in-246.is refl
+
+pub returns-in-247 : goal.returns-in-247
+unfolding bit_steps bit_step
+returns-in-247 c = at 48 _ 247 0xcdb581f5 c.in-247.is refl
+
+pub returns-in-248 : goal.returns-in-248
+unfolding bit_steps bit_step
+returns-in-248 c = at 48 _ 248 0x2bfa6547 c.in-248.is refl
+
+pub returns-in-249 : goal.returns-in-249
+unfolding bit_steps bit_step
+returns-in-249 c = at 48 _ 249 0xc4ca0e5e c.in-249.is refl
+
+pub returns-in-250 : goal.returns-in-250
+unfolding bit_steps bit_step
+returns-in-250 c = at 48 _ 250 0xf076c584 c.in-250.is refl
+
+pub returns-in-251 : goal.returns-in-251
+unfolding bit_steps bit_step
+returns-in-251 c = at 48 _ 251 0x1f46ae9d c.in-251.is refl
+
+pub returns-in-252 : goal.returns-in-252
+unfolding bit_steps bit_step
+returns-in-252 c = at 48 _ 252 0x990f5230 c.in-252.is refl
+
+pub returns-in-253 : goal.returns-in-253
+unfolding bit_steps bit_step
+returns-in-253 c = at 48 _ 253 0x763f3929 c.in-253.is refl
+
+pub returns-in-254 : goal.returns-in-254
+unfolding bit_steps bit_step
+returns-in-254 c = at 48 _ 254 0x4283f2f3 c.in-254.is refl
+
+pub returns-in_default : goal.returns-in_default
+unfolding bit_steps bit_step
+returns-in_default c = at 48 c.args.n 255 0xadb399ea (last c.args.n c.ranges.n.fits c.in_default.in_default-own.rest) refl

@@ -1,0 +1,1029 @@
+-- Made by tools/rows, which says how and why; the gate makes it anew and compares.
+use mathlib.Core.Path.{refl}
+use Rattle.crc32c_format.specs.Crc.{bit_steps, bit_step}
+use Rattle.crc32c_rows_later.proofs.Literal.{at, last}
+use Rattle.crc32c_rows_later.proofs.row6.Goals as goal
+
+pub returns-in-0 : goal.returns-in-0
+unfolding bit_steps bit_step
+returns-in-0 c = at 56 _ 0 0xf56e0ef4 c.in-0.is refl
+
+pub returns-in-1 : goal.returns-in-1
+unfolding bit_steps bit_step
+returns-in-1 c = at 56 _ 1 0x9d6d223c c.in-1.is refl
+
+pub returns-in-2 : goal.returns-in-2
+unfolding bit_steps bit_step
+returns-in-2 c = at 56 _ 2 0x25685764 c.in-2.is refl
+
+pub returns-in-3 : goal.returns-in-3
+unfolding bit_steps bit_step
+returns-in-3 c = at 56 _ 3 0x4d6b7bac c.in-3.is refl
+
+pub returns-in-4 : goal.returns-in-4
+unfolding bit_steps bit_step
+returns-in-4 c = at 56 _ 4 0x508ecb25 c.in-4.is refl
+
+pub returns-in-5 : goal.returns-in-5
+unfolding bit_steps bit_step
+returns-in-5 c = at 56 _ 5 0x388de7ed c.in-5.is refl
+
+pub returns-in-6 : goal.returns-in-6
+unfolding bit_steps bit_step
+returns-in-6 c = at 56 _ 6 0x808892b5 c.in-6.is refl
+
+pub returns-in-7 : goal.returns-in-7
+unfolding bit_steps bit_step
+returns-in-7 c = at 56 _ 7 0xe88bbe7d c.in-7.is refl
+
+pub returns-in-8 : goal.returns-in-8
+unfolding bit_steps bit_step
+returns-in-8 c = at 56 _ 8 0xbb43f3a7 c.in-8.is refl
+
+pub returns-in-9 : goal.returns-in-9
+unfolding bit_steps bit_step
+returns-in-9 c = at 56 _ 9 0xd340df6f c.in-9.is refl
+
+pub returns-in-10 : goal.returns-in-10
+unfolding bit_steps bit_step
+returns-in-10 c = at 56 _ 10 0x6b45aa37 c.in-10.is refl
+
+pub returns-in-11 : goal.returns-in-11
+unfolding bit_steps bit_step
+returns-in-11 c = at 56 _ 11 0x34686ff c.in-11.is refl
+
+pub returns-in-12 : goal.returns-in-12
+unfolding bit_steps bit_step
+returns-in-12 c = at 56 _ 12 0x1ea33676 c.in-12.is refl
+
+pub returns-in-13 : goal.returns-in-13
+unfolding bit_steps bit_step
+returns-in-13 c = at 56 _ 13 0x76a01abe c.in-13.is refl
+
+pub returns-in-14 : goal.returns-in-14
+unfolding bit_steps bit_step
+returns-in-14 c = at 56 _ 14 0xcea56fe6 c.in-14.is refl
+
+pub returns-in-15 : goal.returns-in-15
+unfolding bit_steps bit_step
+returns-in-15 c = at 56 _ 15 0xa6a6432e c.in-15.is refl
+
+pub returns-in-16 : goal.returns-in-16
+unfolding bit_steps bit_step
+returns-in-16 c = at 56 _ 16 0x6935f452 c.in-16.is refl
+
+pub returns-in-17 : goal.returns-in-17
+unfolding bit_steps bit_step
+returns-in-17 c = at 56 _ 17 0x136d89a c.in-17.is refl
+
+pub returns-in-18 : goal.returns-in-18
+unfolding bit_steps bit_step
+returns-in-18 c = at 56 _ 18 0xb933adc2 c.in-18.is refl
+
+pub returns-in-19 : goal.returns-in-19
+unfolding bit_steps bit_step
+returns-in-19 c = at 56 _ 19 0xd130810a c.in-19.is refl
+
+pub returns-in-20 : goal.returns-in-20
+unfolding bit_steps bit_step
+returns-in-20 c = at 56 _ 20 0xccd53183 c.in-20.is refl
+
+pub returns-in-21 : goal.returns-in-21
+unfolding bit_steps bit_step
+returns-in-21 c = at 56 _ 21 0xa4d61d4b c.in-21.is refl
+
+pub returns-in-22 : goal.returns-in-22
+unfolding bit_steps bit_step
+returns-in-22 c = at 56 _ 22 0x1cd36813 c.in-22.is refl
+
+pub returns-in-23 : goal.returns-in-23
+unfolding bit_steps bit_step
+returns-in-23 c = at 56 _ 23 0x74d044db c.in-23.is refl
+
+pub returns-in-24 : goal.returns-in-24
+unfolding bit_steps bit_step
+returns-in-24 c = at 56 _ 24 0x27180901 c.in-24.is refl
+
+pub returns-in-25 : goal.returns-in-25
+unfolding bit_steps bit_step
+returns-in-25 c = at 56 _ 25 0x4f1b25c9 c.in-25.is refl
+
+pub returns-in-26 : goal.returns-in-26
+unfolding bit_steps bit_step
+returns-in-26 c = at 56 _ 26 0xf71e5091 c.in-26.is refl
+
+pub returns-in-27 : goal.returns-in-27
+unfolding bit_steps bit_step
+returns-in-27 c = at 56 _ 27 0x9f1d7c59 c.in-27.is refl
+
+pub returns-in-28 : goal.returns-in-28
+unfolding bit_steps bit_step
+returns-in-28 c = at 56 _ 28 0x82f8ccd0 c.in-28.is refl
+
+pub returns-in-29 : goal.returns-in-29
+unfolding bit_steps bit_step
+returns-in-29 c = at 56 _ 29 0xeafbe018 c.in-29.is refl
+
+pub returns-in-30 : goal.returns-in-30
+unfolding bit_steps bit_step
+returns-in-30 c = at 56 _ 30 0x52fe9540 c.in-30.is refl
+
+pub returns-in-31 : goal.returns-in-31
+unfolding bit_steps bit_step
+returns-in-31 c = at 56 _ 31 0x3afdb988 c.in-31.is refl
+
+pub returns-in-32 : goal.returns-in-32
+unfolding bit_steps bit_step
+returns-in-32 c = at 56 _ 32 0xc8358d49 c.in-32.is refl
+
+pub returns-in-33 : goal.returns-in-33
+unfolding bit_steps bit_step
+returns-in-33 c = at 56 _ 33 0xa036a181 c.in-33.is refl
+
+pub returns-in-34 : goal.returns-in-34
+unfolding bit_steps bit_step
+returns-in-34 c = at 56 _ 34 0x1833d4d9 c.in-34.is refl
+
+pub returns-in-35 : goal.returns-in-35
+unfolding bit_steps bit_step
+returns-in-35 c = at 56 _ 35 0x7030f811 c.in-35.is refl
+
+pub returns-in-36 : goal.returns-in-36
+unfolding bit_steps bit_step
+returns-in-36 c = at 56 _ 36 0x6dd54898 c.in-36.is refl
+
+pub returns-in-37 : goal.returns-in-37
+unfolding bit_steps bit_step
+returns-in-37 c = at 56 _ 37 0x5d66450 c.in-37.is refl
+
+pub returns-in-38 : goal.returns-in-38
+unfolding bit_steps bit_step
+returns-in-38 c = at 56 _ 38 0xbdd31108 c.in-38.is refl
+
+pub returns-in-39 : goal.returns-in-39
+unfolding bit_steps bit_step
+returns-in-39 c = at 56 _ 39 0xd5d03dc0 c.in-39.is refl
+
+pub returns-in-40 : goal.returns-in-40
+unfolding bit_steps bit_step
+returns-in-40 c = at 56 _ 40 0x8618701a c.in-40.is refl
+
+pub returns-in-41 : goal.returns-in-41
+unfolding bit_steps bit_step
+returns-in-41 c = at 56 _ 41 0xee1b5cd2 c.in-41.is refl
+
+pub returns-in-42 : goal.returns-in-42
+unfolding bit_steps bit_step
+returns-in-42 c = at 56 _ 42 0x561e298a c.in-42.is refl
+
+pub returns-in-43 : goal.returns-in-43
+unfolding bit_steps bit_step
+returns-in-43 c = at 56 _ 43 0x3e1d0542 c.in-43.is refl
+
+pub returns-in-44 : goal.returns-in-44
+unfolding bit_steps bit_step
+returns-in-44 c = at 56 _ 44 0x23f8b5cb c.in-44.is refl
+
+pub returns-in-45 : goal.returns-in-45
+unfolding bit_steps bit_step
+returns-in-45 c = at 56 _ 45 0x4bfb9903 c.in-45.is refl
+
+pub returns-in-46 : goal.returns-in-46
+unfolding bit_steps bit_step
+returns-in-46 c = at 56 _ 46 0xf3feec5b c.in-46.is refl
+
+pub returns-in-47 : goal.returns-in-47
+unfolding bit_steps bit_step
+returns-in-47 c = at 56 _ 47 0x9bfdc093 c.in-47.is refl
+
+pub returns-in-48 : goal.returns-in-48
+unfolding bit_steps bit_step
+returns-in-48 c = at 56 _ 48 0x546e77ef c.in-48.is refl
+
+pub returns-in-49 : goal.returns-in-49
+unfolding bit_steps bit_step
+returns-in-49 c = at 56 _ 49 0x3c6d5b27 c.in-49.is refl
+
+pub returns-in-50 : goal.returns-in-50
+unfolding bit_steps bit_step
+returns-in-50 c = at 56 _ 50 0x84682e7f c.in-50.is refl
+
+pub returns-in-51 : goal.returns-in-51
+unfolding bit_steps bit_step
+returns-in-51 c = at 56 _ 51 0xec6b02b7 c.in-51.is refl
+
+pub returns-in-52 : goal.returns-in-52
+unfolding bit_steps bit_step
+returns-in-52 c = at 56 _ 52 0xf18eb23e c.in-52.is refl
+
+pub returns-in-53 : goal.returns-in-53
+unfolding bit_steps bit_step
+returns-in-53 c = at 56 _ 53 0x998d9ef6 c.in-53.is refl
+
+pub returns-in-54 : goal.returns-in-54
+unfolding bit_steps bit_step
+returns-in-54 c = at 56 _ 54 0x2188ebae c.in-54.is refl
+
+pub returns-in-55 : goal.returns-in-55
+unfolding bit_steps bit_step
+returns-in-55 c = at 56 _ 55 0x498bc766 c.in-55.is refl
+
+pub returns-in-56 : goal.returns-in-56
+unfolding bit_steps bit_step
+returns-in-56 c = at 56 _ 56 0x1a438abc c.in-56.is refl
+
+pub returns-in-57 : goal.returns-in-57
+unfolding bit_steps bit_step
+returns-in-57 c = at 56 _ 57 0x7240a674 c.in-57.is refl
+
+pub returns-in-58 : goal.returns-in-58
+unfolding bit_steps bit_step
+returns-in-58 c = at 56 _ 58 0xca45d32c c.in-58.is refl
+
+pub returns-in-59 : goal.returns-in-59
+unfolding bit_steps bit_step
+returns-in-59 c = at 56 _ 59 0xa246ffe4 c.in-59.is refl
+
+pub returns-in-60 : goal.returns-in-60
+unfolding bit_steps bit_step
+returns-in-60 c = at 56 _ 60 0xbfa34f6d c.in-60.is refl
+
+pub returns-in-61 : goal.returns-in-61
+unfolding bit_steps bit_step
+returns-in-61 c = at 56 _ 61 0xd7a063a5 c.in-61.is refl
+
+pub returns-in-62 : goal.returns-in-62
+unfolding bit_steps bit_step
+returns-in-62 c = at 56 _ 62 0x6fa516fd c.in-62.is refl
+
+pub returns-in-63 : goal.returns-in-63
+unfolding bit_steps bit_step
+returns-in-63 c = at 56 _ 63 0x7a63a35 c.in-63.is refl
+
+pub returns-in-64 : goal.returns-in-64
+unfolding bit_steps bit_step
+returns-in-64 c = at 56 _ 64 0x8fd9098e c.in-64.is refl
+
+pub returns-in-65 : goal.returns-in-65
+unfolding bit_steps bit_step
+returns-in-65 c = at 56 _ 65 0xe7da2546 c.in-65.is refl
+
+pub returns-in-66 : goal.returns-in-66
+unfolding bit_steps bit_step
+returns-in-66 c = at 56 _ 66 0x5fdf501e c.in-66.is refl
+
+pub returns-in-67 : goal.returns-in-67
+unfolding bit_steps bit_step
+returns-in-67 c = at 56 _ 67 0x37dc7cd6 c.in-67.is refl
+
+pub returns-in-68 : goal.returns-in-68
+unfolding bit_steps bit_step
+returns-in-68 c = at 56 _ 68 0x2a39cc5f c.in-68.is refl
+
+pub returns-in-69 : goal.returns-in-69
+unfolding bit_steps bit_step
+returns-in-69 c = at 56 _ 69 0x423ae097 c.in-69.is refl
+
+pub returns-in-70 : goal.returns-in-70
+unfolding bit_steps bit_step
+returns-in-70 c = at 56 _ 70 0xfa3f95cf c.in-70.is refl
+
+pub returns-in-71 : goal.returns-in-71
+unfolding bit_steps bit_step
+returns-in-71 c = at 56 _ 71 0x923cb907 c.in-71.is refl
+
+pub returns-in-72 : goal.returns-in-72
+unfolding bit_steps bit_step
+returns-in-72 c = at 56 _ 72 0xc1f4f4dd c.in-72.is refl
+
+pub returns-in-73 : goal.returns-in-73
+unfolding bit_steps bit_step
+returns-in-73 c = at 56 _ 73 0xa9f7d815 c.in-73.is refl
+
+pub returns-in-74 : goal.returns-in-74
+unfolding bit_steps bit_step
+returns-in-74 c = at 56 _ 74 0x11f2ad4d c.in-74.is refl
+
+pub returns-in-75 : goal.returns-in-75
+unfolding bit_steps bit_step
+returns-in-75 c = at 56 _ 75 0x79f18185 c.in-75.is refl
+
+pub returns-in-76 : goal.returns-in-76
+unfolding bit_steps bit_step
+returns-in-76 c = at 56 _ 76 0x6414310c c.in-76.is refl
+
+pub returns-in-77 : goal.returns-in-77
+unfolding bit_steps bit_step
+returns-in-77 c = at 56 _ 77 0xc171dc4 c.in-77.is refl
+
+pub returns-in-78 : goal.returns-in-78
+unfolding bit_steps bit_step
+returns-in-78 c = at 56 _ 78 0xb412689c c.in-78.is refl
+
+pub returns-in-79 : goal.returns-in-79
+unfolding bit_steps bit_step
+returns-in-79 c = at 56 _ 79 0xdc114454 c.in-79.is refl
+
+pub returns-in-80 : goal.returns-in-80
+unfolding bit_steps bit_step
+returns-in-80 c = at 56 _ 80 0x1382f328 c.in-80.is refl
+
+pub returns-in-81 : goal.returns-in-81
+unfolding bit_steps bit_step
+returns-in-81 c = at 56 _ 81 0x7b81dfe0 c.in-81.is refl
+
+pub returns-in-82 : goal.returns-in-82
+unfolding bit_steps bit_step
+returns-in-82 c = at 56 _ 82 0xc384aab8 c.in-82.is refl
+
+pub returns-in-83 : goal.returns-in-83
+unfolding bit_steps bit_step
+returns-in-83 c = at 56 _ 83 0xab878670 c.in-83.is refl
+
+pub returns-in-84 : goal.returns-in-84
+unfolding bit_steps bit_step
+returns-in-84 c = at 56 _ 84 0xb66236f9 c.in-84.is refl
+
+pub returns-in-85 : goal.returns-in-85
+unfolding bit_steps bit_step
+returns-in-85 c = at 56 _ 85 0xde611a31 c.in-85.is refl
+
+pub returns-in-86 : goal.returns-in-86
+unfolding bit_steps bit_step
+returns-in-86 c = at 56 _ 86 0x66646f69 c.in-86.is refl
+
+pub returns-in-87 : goal.returns-in-87
+unfolding bit_steps bit_step
+returns-in-87 c = at 56 _ 87 0xe6743a1 c.in-87.is refl
+
+pub returns-in-88 : goal.returns-in-88
+unfolding bit_steps bit_step
+returns-in-88 c = at 56 _ 88 0x5daf0e7b c.in-88.is refl
+
+pub returns-in-89 : goal.returns-in-89
+unfolding bit_steps bit_step
+returns-in-89 c = at 56 _ 89 0x35ac22b3 c.in-89.is refl
+
+pub returns-in-90 : goal.returns-in-90
+unfolding bit_steps bit_step
+returns-in-90 c = at 56 _ 90 0x8da957eb c.in-90.is refl
+
+pub returns-in-91 : goal.returns-in-91
+unfolding bit_steps bit_step
+returns-in-91 c = at 56 _ 91 0xe5aa7b23 c.in-91.is refl
+
+pub returns-in-92 : goal.returns-in-92
+unfolding bit_steps bit_step
+returns-in-92 c = at 56 _ 92 0xf84fcbaa c.in-92.is refl
+
+pub returns-in-93 : goal.returns-in-93
+unfolding bit_steps bit_step
+returns-in-93 c = at 56 _ 93 0x904ce762 c.in-93.is refl
+
+pub returns-in-94 : goal.returns-in-94
+unfolding bit_steps bit_step
+returns-in-94 c = at 56 _ 94 0x2849923a c.in-94.is refl
+
+pub returns-in-95 : goal.returns-in-95
+unfolding bit_steps bit_step
+returns-in-95 c = at 56 _ 95 0x404abef2 c.in-95.is refl
+
+pub returns-in-96 : goal.returns-in-96
+unfolding bit_steps bit_step
+returns-in-96 c = at 56 _ 96 0xb2828a33 c.in-96.is refl
+
+pub returns-in-97 : goal.returns-in-97
+unfolding bit_steps bit_step
+returns-in-97 c = at 56 _ 97 0xda81a6fb c.in-97.is refl
+
+pub returns-in-98 : goal.returns-in-98
+unfolding bit_steps bit_step
+returns-in-98 c = at 56 _ 98 0x6284d3a3 c.in-98.is refl
+
+pub returns-in-99 : goal.returns-in-99
+unfolding bit_steps bit_step
+returns-in-99 c = at 56 _ 99 0xa87ff6b c.in-99.is refl
+
+pub returns-in-100 : goal.returns-in-100
+unfolding bit_steps bit_step
+returns-in-100 c = at 56 _ 100 0x17624fe2 c.in-100.is refl
+
+pub returns-in-101 : goal.returns-in-101
+unfolding bit_steps bit_step
+returns-in-101 c = at 56 _ 101 0x7f61632a c.in-101.is refl
+
+pub returns-in-102 : goal.returns-in-102
+unfolding bit_steps bit_step
+returns-in-102 c = at 56 _ 102 0xc7641672 c.in-102.is refl
+
+pub returns-in-103 : goal.returns-in-103
+unfolding bit_steps bit_step
+returns-in-103 c = at 56 _ 103 0xaf673aba c.in-103.is refl
+
+pub returns-in-104 : goal.returns-in-104
+unfolding bit_steps bit_step
+returns-in-104 c = at 56 _ 104 0xfcaf7760 c.in-104.is refl
+
+pub returns-in-105 : goal.returns-in-105
+unfolding bit_steps bit_step
+returns-in-105 c = at 56 _ 105 0x94ac5ba8 c.in-105.is refl
+
+pub returns-in-106 : goal.returns-in-106
+unfolding bit_steps bit_step
+returns-in-106 c = at 56 _ 106 0x2ca92ef0 c.in-106.is refl
+
+pub returns-in-107 : goal.returns-in-107
+unfolding bit_steps bit_step
+returns-in-107 c = at 56 _ 107 0x44aa0238 c.in-107.is refl
+
+pub returns-in-108 : goal.returns-in-108
+unfolding bit_steps bit_step
+returns-in-108 c = at 56 _ 108 0x594fb2b1 c.in-108.is refl
+
+pub returns-in-109 : goal.returns-in-109
+unfolding bit_steps bit_step
+returns-in-109 c = at 56 _ 109 0x314c9e79 c.in-109.is refl
+
+pub returns-in-110 : goal.returns-in-110
+unfolding bit_steps bit_step
+returns-in-110 c = at 56 _ 110 0x8949eb21 c.in-110.is refl
+
+pub returns-in-111 : goal.returns-in-111
+unfolding bit_steps bit_step
+returns-in-111 c = at 56 _ 111 0xe14ac7e9 c.in-111.is refl
+
+pub returns-in-112 : goal.returns-in-112
+unfolding bit_steps bit_step
+returns-in-112 c = at 56 _ 112 0x2ed97095 c.in-112.is refl
+
+pub returns-in-113 : goal.returns-in-113
+unfolding bit_steps bit_step
+returns-in-113 c = at 56 _ 113 0x46da5c5d c.in-113.is refl
+
+pub returns-in-114 : goal.returns-in-114
+unfolding bit_steps bit_step
+returns-in-114 c = at 56 _ 114 0xfedf2905 c.in-114.is refl
+
+pub returns-in-115 : goal.returns-in-115
+unfolding bit_steps bit_step
+returns-in-115 c = at 56 _ 115 0x96dc05cd c.in-115.is refl
+
+pub returns-in-116 : goal.returns-in-116
+unfolding bit_steps bit_step
+returns-in-116 c = at 56 _ 116 0x8b39b544 c.in-116.is refl
+
+pub returns-in-117 : goal.returns-in-117
+unfolding bit_steps bit_step
+returns-in-117 c = at 56 _ 117 0xe33a998c c.in-117.is refl
+
+pub returns-in-118 : goal.returns-in-118
+unfolding bit_steps bit_step
+returns-in-118 c = at 56 _ 118 0x5b3fecd4 c.in-118.is refl
+
+pub returns-in-119 : goal.returns-in-119
+unfolding bit_steps bit_step
+returns-in-119 c = at 56 _ 119 0x333cc01c c.in-119.is refl
+
+pub returns-in-120 : goal.returns-in-120
+unfolding bit_steps bit_step
+returns-in-120 c = at 56 _ 120 0x60f48dc6 c.in-120.is refl
+
+pub returns-in-121 : goal.returns-in-121
+unfolding bit_steps bit_step
+returns-in-121 c = at 56 _ 121 0x8f7a10e c.in-121.is refl
+
+pub returns-in-122 : goal.returns-in-122
+unfolding bit_steps bit_step
+returns-in-122 c = at 56 _ 122 0xb0f2d456 c.in-122.is refl
+
+pub returns-in-123 : goal.returns-in-123
+unfolding bit_steps bit_step
+returns-in-123 c = at 56 _ 123 0xd8f1f89e c.in-123.is refl
+
+pub returns-in-124 : goal.returns-in-124
+unfolding bit_steps bit_step
+returns-in-124 c = at 56 _ 124 0xc5144817 c.in-124.is refl
+
+pub returns-in-125 : goal.returns-in-125
+unfolding bit_steps bit_step
+returns-in-125 c = at 56 _ 125 0xad1764df c.in-125.is refl
+
+pub returns-in-126 : goal.returns-in-126
+unfolding bit_steps bit_step
+returns-in-126 c = at 56 _ 126 0x15121187 c.in-126.is refl
+
+pub returns-in-127 : goal.returns-in-127
+unfolding bit_steps bit_step
+returns-in-127 c = at 56 _ 127 0x7d113d4f c.in-127.is refl
+
+pub returns-in-128 : goal.returns-in-128
+unfolding bit_steps bit_step
+returns-in-128 c = at 56 _ 128 0x0 c.in-128.is refl
+
+pub returns-in-129 : goal.returns-in-129
+unfolding bit_steps bit_step
+returns-in-129 c = at 56 _ 129 0x68032cc8 c.in-129.is refl
+
+pub returns-in-130 : goal.returns-in-130
+unfolding bit_steps bit_step
+returns-in-130 c = at 56 _ 130 0xd0065990 c.in-130.is refl
+
+pub returns-in-131 : goal.returns-in-131
+unfolding bit_steps bit_step
+returns-in-131 c = at 56 _ 131 0xb8057558 c.in-131.is refl
+
+pub returns-in-132 : goal.returns-in-132
+unfolding bit_steps bit_step
+returns-in-132 c = at 56 _ 132 0xa5e0c5d1 c.in-132.is refl
+
+pub returns-in-133 : goal.returns-in-133
+unfolding bit_steps bit_step
+returns-in-133 c = at 56 _ 133 0xcde3e919 c.in-133.is refl
+
+pub returns-in-134 : goal.returns-in-134
+unfolding bit_steps bit_step
+returns-in-134 c = at 56 _ 134 0x75e69c41 c.in-134.is refl
+
+pub returns-in-135 : goal.returns-in-135
+unfolding bit_steps bit_step
+returns-in-135 c = at 56 _ 135 0x1de5b089 c.in-135.is refl
+
+pub returns-in-136 : goal.returns-in-136
+unfolding bit_steps bit_step
+returns-in-136 c = at 56 _ 136 0x4e2dfd53 c.in-136.is refl
+
+pub returns-in-137 : goal.returns-in-137
+unfolding bit_steps bit_step
+returns-in-137 c = at 56 _ 137 0x262ed19b c.in-137.is refl
+
+pub returns-in-138 : goal.returns-in-138
+unfolding bit_steps bit_step
+returns-in-138 c = at 56 _ 138 0x9e2ba4c3 c.in-138.is refl
+
+pub returns-in-139 : goal.returns-in-139
+unfolding bit_steps bit_step
+returns-in-139 c = at 56 _ 139 0xf628880b c.in-139.is refl
+
+pub returns-in-140 : goal.returns-in-140
+unfolding bit_steps bit_step
+returns-in-140 c = at 56 _ 140 0xebcd3882 c.in-140.is refl
+
+pub returns-in-141 : goal.returns-in-141
+unfolding bit_steps bit_step
+returns-in-141 c = at 56 _ 141 0x83ce144a c.in-141.is refl
+
+pub returns-in-142 : goal.returns-in-142
+unfolding bit_steps bit_step
+returns-in-142 c = at 56 _ 142 0x3bcb6112 c.in-142.is refl
+
+pub returns-in-143 : goal.returns-in-143
+unfolding bit_steps bit_step
+returns-in-143 c = at 56 _ 143 0x53c84dda c.in-143.is refl
+
+pub returns-in-144 : goal.returns-in-144
+unfolding bit_steps bit_step
+returns-in-144 c = at 56 _ 144 0x9c5bfaa6 c.in-144.is refl
+
+pub returns-in-145 : goal.returns-in-145
+unfolding bit_steps bit_step
+returns-in-145 c = at 56 _ 145 0xf458d66e c.in-145.is refl
+
+pub returns-in-146 : goal.returns-in-146
+unfolding bit_steps bit_step
+returns-in-146 c = at 56 _ 146 0x4c5da336 c.in-146.is refl
+
+pub returns-in-147 : goal.returns-in-147
+unfolding bit_steps bit_step
+returns-in-147 c = at 56 _ 147 0x245e8ffe c.in-147.is refl
+
+pub returns-in-148 : goal.returns-in-148
+unfolding bit_steps bit_step
+returns-in-148 c = at 56 _ 148 0x39bb3f77 c.in-148.is refl
+
+pub returns-in-149 : goal.returns-in-149
+unfolding bit_steps bit_step
+returns-in-149 c = at 56 _ 149 0x51b813bf c.in-149.is refl
+
+pub returns-in-150 : goal.returns-in-150
+unfolding bit_steps bit_step
+returns-in-150 c = at 56 _ 150 0xe9bd66e7 c.in-150.is refl
+
+pub returns-in-151 : goal.returns-in-151
+unfolding bit_steps bit_step
+returns-in-151 c = at 56 _ 151 0x81be4a2f c.in-151.is refl
+
+pub returns-in-152 : goal.returns-in-152
+unfolding bit_steps bit_step
+returns-in-152 c = at 56 _ 152 0xd27607f5 c.in-152.is refl
+
+pub returns-in-153 : goal.returns-in-153
+unfolding bit_steps bit_step
+returns-in-153 c = at 56 _ 153 0xba752b3d c.in-153.is refl
+
+pub returns-in-154 : goal.returns-in-154
+unfolding bit_steps bit_step
+returns-in-154 c = at 56 _ 154 0x2705e65 c.in-154.is refl
+
+pub returns-in-155 : goal.returns-in-155
+unfolding bit_steps bit_step
+returns-in-155 c = at 56 _ 155 0x6a7372ad c.in-155.is refl
+
+pub returns-in-156 : goal.returns-in-156
+unfolding bit_steps bit_step
+returns-in-156 c = at 56 _ 156 0x7796c224 c.in-156.is refl
+
+pub returns-in-157 : goal.returns-in-157
+unfolding bit_steps bit_step
+returns-in-157 c = at 56 _ 157 0x1f95eeec c.in-157.is refl
+
+pub returns-in-158 : goal.returns-in-158
+unfolding bit_steps bit_step
+returns-in-158 c = at 56 _ 158 0xa7909bb4 c.in-158.is refl
+
+pub returns-in-159 : goal.returns-in-159
+unfolding bit_steps bit_step
+returns-in-159 c = at 56 _ 159 0xcf93b77c c.in-159.is refl
+
+pub returns-in-160 : goal.returns-in-160
+unfolding bit_steps bit_step
+returns-in-160 c = at 56 _ 160 0x3d5b83bd c.in-160.is refl
+
+pub returns-in-161 : goal.returns-in-161
+unfolding bit_steps bit_step
+returns-in-161 c = at 56 _ 161 0x5558af75 c.in-161.is refl
+
+pub returns-in-162 : goal.returns-in-162
+unfolding bit_steps bit_step
+returns-in-162 c = at 56 _ 162 0xed5dda2d c.in-162.is refl
+
+pub returns-in-163 : goal.returns-in-163
+unfolding bit_steps bit_step
+returns-in-163 c = at 56 _ 163 0x855ef6e5 c.in-163.is refl
+
+pub returns-in-164 : goal.returns-in-164
+unfolding bit_steps bit_step
+returns-in-164 c = at 56 _ 164 0x98bb466c c.in-164.is refl
+
+pub returns-in-165 : goal.returns-in-165
+unfolding bit_steps bit_step
+returns-in-165 c = at 56 _ 165 0xf0b86aa4 c.in-165.is refl
+
+pub returns-in-166 : goal.returns-in-166
+unfolding bit_steps bit_step
+returns-in-166 c = at 56 _ 166 0x48bd1ffc c.in-166.is refl
+
+pub returns-in-167 : goal.returns-in-167
+unfolding bit_steps bit_step
+returns-in-167 c = at 56 _ 167 0x20be3334 c.in-167.is refl
+
+pub returns-in-168 : goal.returns-in-168
+unfolding bit_steps bit_step
+returns-in-168 c = at 56 _ 168 0x73767eee c.in-168.is refl
+
+pub returns-in-169 : goal.returns-in-169
+unfolding bit_steps bit_step
+returns-in-169 c = at 56 _ 169 0x1b755226 c.in-169.is refl
+
+pub returns-in-170 : goal.returns-in-170
+unfolding bit_steps bit_step
+returns-in-170 c = at 56 _ 170 0xa370277e c.in-170.is refl
+
+pub returns-in-171 : goal.returns-in-171
+unfolding bit_steps bit_step
+returns-in-171 c = at 56 _ 171 0xcb730bb6 c.in-171.is refl
+
+pub returns-in-172 : goal.returns-in-172
+unfolding bit_steps bit_step
+returns-in-172 c = at 56 _ 172 0xd696bb3f c.in-172.is refl
+
+pub returns-in-173 : goal.returns-in-173
+unfolding bit_steps bit_step
+returns-in-173 c = at 56 _ 173 0xbe9597f7 c.in-173.is refl
+
+pub returns-in-174 : goal.returns-in-174
+unfolding bit_steps bit_step
+returns-in-174 c = at 56 _ 174 0x690e2af c.in-174.is refl
+
+pub returns-in-175 : goal.returns-in-175
+unfolding bit_steps bit_step
+returns-in-175 c = at 56 _ 175 0x6e93ce67 c.in-175.is refl
+
+pub returns-in-176 : goal.returns-in-176
+unfolding bit_steps bit_step
+returns-in-176 c = at 56 _ 176 0xa100791b c.in-176.is refl
+
+pub returns-in-177 : goal.returns-in-177
+unfolding bit_steps bit_step
+returns-in-177 c = at 56 _ 177 0xc90355d3 c.in-177.is refl
+
+pub returns-in-178 : goal.returns-in-178
+unfolding bit_steps bit_step
+returns-in-178 c = at 56 _ 178 0x7106208b c.in-178.is refl
+
+pub returns-in-179 : goal.returns-in-179
+unfolding bit_steps bit_step
+returns-in-179 c = at 56 _ 179 0x19050c43 c.in-179.is refl
+
+pub returns-in-180 : goal.returns-in-180
+unfolding bit_steps bit_step
+returns-in-180 c = at 56 _ 180 0x4e0bcca c.in-180.is refl
+
+pub returns-in-181 : goal.returns-in-181
+unfolding bit_steps bit_step
+returns-in-181 c = at 56 _ 181 0x6ce39002 c.in-181.is refl
+
+pub returns-in-182 : goal.returns-in-182
+unfolding bit_steps bit_step
+returns-in-182 c = at 56 _ 182 0xd4e6e55a c.in-182.is refl
+
+pub returns-in-183 : goal.returns-in-183
+unfolding bit_steps bit_step
+returns-in-183 c = at 56 _ 183 0xbce5c992 c.in-183.is refl
+
+pub returns-in-184 : goal.returns-in-184
+unfolding bit_steps bit_step
+returns-in-184 c = at 56 _ 184 0xef2d8448 c.in-184.is refl
+
+pub returns-in-185 : goal.returns-in-185
+unfolding bit_steps bit_step
+returns-in-185 c = at 56 _ 185 0x872ea880 c.in-185.is refl
+
+pub returns-in-186 : goal.returns-in-186
+unfolding bit_steps bit_step
+returns-in-186 c = at 56 _ 186 0x3f2bddd8 c.in-186.is refl
+
+pub returns-in-187 : goal.returns-in-187
+unfolding bit_steps bit_step
+returns-in-187 c = at 56 _ 187 0x5728f110 c.in-187.is refl
+
+pub returns-in-188 : goal.returns-in-188
+unfolding bit_steps bit_step
+returns-in-188 c = at 56 _ 188 0x4acd4199 c.in-188.is refl
+
+pub returns-in-189 : goal.returns-in-189
+unfolding bit_steps bit_step
+returns-in-189 c = at 56 _ 189 0x22ce6d51 c.in-189.is refl
+
+pub returns-in-190 : goal.returns-in-190
+unfolding bit_steps bit_step
+returns-in-190 c = at 56 _ 190 0x9acb1809 c.in-190.is refl
+
+pub returns-in-191 : goal.returns-in-191
+unfolding bit_steps bit_step
+returns-in-191 c = at 56 _ 191 0xf2c834c1 c.in-191.is refl
+
+pub returns-in-192 : goal.returns-in-192
+unfolding bit_steps bit_step
+returns-in-192 c = at 56 _ 192 0x7ab7077a c.in-192.is refl
+
+pub returns-in-193 : goal.returns-in-193
+unfolding bit_steps bit_step
+returns-in-193 c = at 56 _ 193 0x12b42bb2 c.in-193.is refl
+
+pub returns-in-194 : goal.returns-in-194
+unfolding bit_steps bit_step
+returns-in-194 c = at 56 _ 194 0xaab15eea c.in-194.is refl
+
+pub returns-in-195 : goal.returns-in-195
+unfolding bit_steps bit_step
+returns-in-195 c = at 56 _ 195 0xc2b27222 c.in-195.is refl
+
+pub returns-in-196 : goal.returns-in-196
+unfolding bit_steps bit_step
+returns-in-196 c = at 56 _ 196 0xdf57c2ab c.in-196.is refl
+
+pub returns-in-197 : goal.returns-in-197
+unfolding bit_steps bit_step
+returns-in-197 c = at 56 _ 197 0xb754ee63 c.in-197.is refl
+
+pub returns-in-198 : goal.returns-in-198
+unfolding bit_steps bit_step
+returns-in-198 c = at 56 _ 198 0xf519b3b c.in-198.is refl
+
+pub returns-in-199 : goal.returns-in-199
+unfolding bit_steps bit_step
+returns-in-199 c = at 56 _ 199 0x6752b7f3 c.in-199.is refl
+
+pub returns-in-200 : goal.returns-in-200
+unfolding bit_steps bit_step
+returns-in-200 c = at 56 _ 200 0x349afa29 c.in-200.is refl
+
+pub returns-in-201 : goal.returns-in-201
+unfolding bit_steps bit_step
+returns-in-201 c = at 56 _ 201 0x5c99d6e1 c.in-201.is refl
+
+pub returns-in-202 : goal.returns-in-202
+unfolding bit_steps bit_step
+returns-in-202 c = at 56 _ 202 0xe49ca3b9 c.in-202.is refl
+
+pub returns-in-203 : goal.returns-in-203
+unfolding bit_steps bit_step
+returns-in-203 c = at 56 _ 203 0x8c9f8f71 c.in-203.is refl
+
+pub returns-in-204 : goal.returns-in-204
+unfolding bit_steps bit_step
+returns-in-204 c = at 56 _ 204 0x917a3ff8 c.in-204.is refl
+
+pub returns-in-205 : goal.returns-in-205
+unfolding bit_steps bit_step
+returns-in-205 c = at 56 _ 205 0xf9791330 c.in-205.is refl
+
+pub returns-in-206 : goal.returns-in-206
+unfolding bit_steps bit_step
+returns-in-206 c = at 56 _ 206 0x417c6668 c.in-206.is refl
+
+pub returns-in-207 : goal.returns-in-207
+unfolding bit_steps bit_step
+returns-in-207 c = at 56 _ 207 0x297f4aa0 c.in-207.is refl
+
+pub returns-in-208 : goal.returns-in-208
+unfolding bit_steps bit_step
+returns-in-208 c = at 56 _ 208 0xe6ecfddc c.in-208.is refl
+
+pub returns-in-209 : goal.returns-in-209
+unfolding bit_steps bit_step
+returns-in-209 c = at 56 _ 209 0x8eefd114 c.in-209.is refl
+
+pub returns-in-210 : goal.returns-in-210
+unfolding bit_steps bit_step
+returns-in-210 c = at 56 _ 210 0x36eaa44c c.in-210.is refl
+
+pub returns-in-211 : goal.returns-in-211
+unfolding bit_steps bit_step
+returns-in-211 c = at 56 _ 211 0x5ee98884 c.in-211.is refl
+
+pub returns-in-212 : goal.returns-in-212
+unfolding bit_steps bit_step
+returns-in-212 c = at 56 _ 212 0x430c380d c.in-212.is refl
+
+pub returns-in-213 : goal.returns-in-213
+unfolding bit_steps bit_step
+returns-in-213 c = at 56 _ 213 0x2b0f14c5 c.in-213.is refl
+
+pub returns-in-214 : goal.returns-in-214
+unfolding bit_steps bit_step
+returns-in-214 c = at 56 _ 214 0x930a619d c.in-214.is refl
+
+pub returns-in-215 : goal.returns-in-215
+unfolding bit_steps bit_step
+returns-in-215 c = at 56 _ 215 0xfb094d55 c.in-215.is refl
+
+pub returns-in-216 : goal.returns-in-216
+unfolding bit_steps bit_step
+returns-in-216 c = at 56 _ 216 0xa8c1008f c.in-216.is refl
+
+pub returns-in-217 : goal.returns-in-217
+unfolding bit_steps bit_step
+returns-in-217 c = at 56 _ 217 0xc0c22c47 c.in-217.is refl
+
+pub returns-in-218 : goal.returns-in-218
+unfolding bit_steps bit_step
+returns-in-218 c = at 56 _ 218 0x78c7591f c.in-218.is refl
+
+pub returns-in-219 : goal.returns-in-219
+unfolding bit_steps bit_step
+returns-in-219 c = at 56 _ 219 0x10c475d7 c.in-219.is refl
+
+pub returns-in-220 : goal.returns-in-220
+unfolding bit_steps bit_step
+returns-in-220 c = at 56 _ 220 0xd21c55e c.in-220.is refl
+
+pub returns-in-221 : goal.returns-in-221
+unfolding bit_steps bit_step
+returns-in-221 c = at 56 _ 221 0x6522e996 c.in-221.is refl
+
+pub returns-in-222 : goal.returns-in-222
+unfolding bit_steps bit_step
+returns-in-222 c = at 56 _ 222 0xdd279cce c.in-222.is refl
+
+pub returns-in-223 : goal.returns-in-223
+unfolding bit_steps bit_step
+returns-in-223 c = at 56 _ 223 0xb524b006 c.in-223.is refl
+
+pub returns-in-224 : goal.returns-in-224
+unfolding bit_steps bit_step
+returns-in-224 c = at 56 _ 224 0x47ec84c7 c.in-224.is refl
+
+pub returns-in-225 : goal.returns-in-225
+unfolding bit_steps bit_step
+returns-in-225 c = at 56 _ 225 0x2fefa80f c.in-225.is refl
+
+pub returns-in-226 : goal.returns-in-226
+unfolding bit_steps bit_step
+returns-in-226 c = at 56 _ 226 0x97eadd57 c.in-226.is refl
+
+pub returns-in-227 : goal.returns-in-227
+unfolding bit_steps bit_step
+returns-in-227 c = at 56 _ 227 0xffe9f19f c.in-227.is refl
+
+pub returns-in-228 : goal.returns-in-228
+unfolding bit_steps bit_step
+returns-in-228 c = at 56 _ 228 0xe20c4116 c.in-228.is refl
+
+pub returns-in-229 : goal.returns-in-229
+unfolding bit_steps bit_step
+returns-in-229 c = at 56 _ 229 0x8a0f6dde c.in-229.is refl
+
+pub returns-in-230 : goal.returns-in-230
+unfolding bit_steps bit_step
+returns-in-230 c = at 56 _ 230 0x320a1886 c.in-230.is refl
+
+pub returns-in-231 : goal.returns-in-231
+unfolding bit_steps bit_step
+returns-in-231 c = at 56 _ 231 0x5a09344e c.in-231.is refl
+
+pub returns-in-232 : goal.returns-in-232
+unfolding bit_steps bit_step
+returns-in-232 c = at 56 _ 232 0x9c17994 c.in-232.is refl
+
+pub returns-in-233 : goal.returns-in-233
+unfolding bit_steps bit_step
+returns-in-233 c = at 56 _ 233 0x61c2555c c.in-233.is refl
+
+pub returns-in-234 : goal.returns-in-234
+unfolding bit_steps bit_step
+returns-in-234 c = at 56 _ 234 0xd9c72004 c.in-234.is refl
+
+pub returns-in-235 : goal.returns-in-235
+unfolding bit_steps bit_step
+returns-in-235 c = at 56 _ 235 0xb1c40ccc c.in-235.is refl
+
+pub returns-in-236 : goal.returns-in-236
+unfolding bit_steps bit_step
+returns-in-236 c = at 56 _ 236 0xac21bc45 c.in-236.is refl
+
+pub returns-in-237 : goal.returns-in-237
+unfolding bit_steps bit_step
+returns-in-237 c = at 56 _ 237 0xc422908d c.in-237.is refl
+
+pub returns-in-238 : goal.returns-in-238
+unfolding bit_steps bit_step
+returns-in-238 c = at 56 _ 238 0x7c27e5d5 c.in-238.is refl
+
+pub returns-in-239 : goal.returns-in-239
+unfolding bit_steps bit_step
+returns-in-239 c = at 56 _ 239 0x1424c91d c.in-239.is refl
+
+pub returns-in-240 : goal.returns-in-240
+unfolding bit_steps bit_step
+returns-in-240 c = at 56 _ 240 0xdbb77e61 c.in-240.is refl
+
+pub returns-in-241 : goal.returns-in-241
+unfolding bit_steps bit_step
+returns-in-241 c = at 56 _ 241 0xb3b452a9 c.in-241.is refl
+
+pub returns-in-242 : goal.returns-in-242
+unfolding bit_steps bit_step
+returns-in-242 c = at 56 _ 242 0xbb127f1 c.in-242.is refl
+
+pub returns-in-243 : goal.returns-in-243
+unfolding bit_steps bit_step
+returns-in-243 c = at 56 _ 243 0x63b20b39 c.in-243.is refl
+
+pub returns-in-244 : goal.returns-in-244
+unfolding bit_steps bit_step
+returns-in-244 c = at 56 _ 244 0x7e57bbb0 c.in-244.is refl
+
+pub returns-in-245 : goal.returns-in-245
+unfolding bit_steps bit_step
+returns-in-245 c = at 56 _ 245 0x16549778 c.in-245.is refl
+
+pub returns-in-246 : goal.returns-in-246
+unfolding bit_steps bit_step
+returns-in-246 c = at 56 _ 246 0xae51e220 c.in-246.is refl
+
+pub returns-in-247 : goal.returns-in-247
+unfolding bit_steps bit_step
+returns-in-247 c = at 56 _ 247 0xc652cee8 c.in-247.is refl
+
+pub returns-in-248 : goal.returns-in-248
+unfolding bit_steps bit_step
+returns-in-248 c = at 56 _ 248 0x959a8332 c.in-248.is refl
+
+pub returns-in-249 : goal.returns-in-249
+unfolding bit_steps bit_step
+returns-in-249 c = at 56 _ 249 0xfd99affa c.in-249.is refl
+
+pub returns-in-250 : goal.returns-in-250
+unfolding bit_steps bit_step
+returns-in-250 c = at 56 _ 250 0x459cdaa2 c.in-250.is refl
+
+pub returns-in-251 : goal.returns-in-251
+unfolding bit_steps bit_step
+returns-in-251 c = at 56 _ 251 0x2d9ff66a c.in-251.is refl
+
+pub returns-in-252 : goal.returns-in-252
+unfolding bit_steps bit_step
+returns-in-252 c = at 56 _ 252 0x307a46e3 c.in-252.is refl
+
+pub returns-in-253 : goal.returns-in-253
+unfolding bit_steps bit_step
+returns-in-253 c = at 56 _ 253 0x58796a2b c.in-253.is refl
+
+pub returns-in-254 : goal.returns-in-254
+unfolding bit_steps bit_step
+returns-in-254 c = at 56 _ 254 0xe07c1f73 c.in-254.is refl
+
+pub returns-in_default : goal.returns-in_default
+unfolding bit_steps bit_step
+returns-in_default c = at 56 c.args.n 255 0x887f33bb (last c.args.n c.ranges.n.fits c.in_default.in_default-own.rest) refl

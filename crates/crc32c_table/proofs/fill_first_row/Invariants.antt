@@ -1,0 +1,13 @@
+-- `fill_first_row` meets its contract. The invariant: the first i entries are right.
+use borrow.Author.Rules.{rules}
+use native.Mathlib.Omega.{arith}
+use Prim.Native.Nat.{◌-◌, ◌≤◌}
+use mathlib.Core.Path.{◌∙◌}
+use Rattle.crc32c_format.specs.Method.Tables.{Filled, filled_more, filled_to, entry_first}
+use Rattle.crc32c_table.proofs.fill_first_row.Given as goal
+
+abbrev pub invariant-loop-i : goal.invariant-loop-i
+invariant-loop-i l = (l.i ≤ 256) × Filled l.table l.i
+
+abbrev pub decreases-loop-i : goal.decreases-loop-i
+decreases-loop-i l = 256 - l.i

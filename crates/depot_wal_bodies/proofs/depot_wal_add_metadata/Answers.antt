@@ -1,0 +1,12 @@
+-- `depot_wal_add_metadata` meets its contract: that of `Body::add_metadata`, as numbers.
+use borrow.Author.Rules.{rules}
+use mathlib.Core.Path.{ap, ◌∙◌}
+use Rattle.depot_wal_results.specs.Bodies.{added_code, added_out}
+use Rattle.depot_wal_bodies.proofs.depot_wal_add_metadata.Goals as goal
+
+pub returns : goal.returns
+returns c =
+    let told = c.build_result.ensures in
+    let answer = c.add_metadata-answer.ensures.answer in
+    let bytes = c.add_metadata-answer.ensures.bytes in
+    (told.0 ∙ ap added_code answer, told.1 ∙ ap (added_out c.args.used) answer, bytes)

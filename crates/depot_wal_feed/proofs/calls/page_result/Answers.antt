@@ -1,0 +1,15 @@
+-- `page_result` meets its contract: each answer has its number and its value.
+use borrow.Author.Rules.{rules}
+use mathlib.Core.Path.{refl, ap}
+use mathlib.Core.List.{[], ◌∷◌}
+use Rattle.wal_types.specs.declared.Offset.{Offset}
+use Rattle.depot_wal_feed.proofs.calls.page_result.Goals as goal
+
+pub returns-in-Taken : goal.returns-in-Taken
+returns-in-Taken c = rw c.in-Taken.is (refl, refl)
+
+pub returns-in-Refused : goal.returns-in-Refused
+returns-in-Refused c =
+    let g = c.args.good in
+    rw c.in-Refused.is
+    (c.number.ensures, ap (λ (o : Offset). o.0 ∷ g.records ∷ g.offset.0 ∷ []) c.place-at.ensures)

@@ -1,0 +1,14 @@
+-- `parse_result` meets its contract: each answer has its number and its values.
+use borrow.Author.Rules.{rules}
+use mathlib.Core.Path.{refl, ap}
+use mathlib.Core.List.{[], ◌∷◌}
+use Rattle.wal_types.specs.declared.Offset.{Offset}
+use Rattle.depot_wal_names.proofs.parse_result.Goals as goal
+
+pub returns-in-Name : goal.returns-in-Name
+returns-in-Name c = rw c.in-Name.is (refl, refl)
+
+pub returns-in-Refused : goal.returns-in-Refused
+returns-in-Refused c =
+    rw c.in-Refused.is
+    (c.number.ensures, ap (λ (o : Offset). o.0 ∷ 0 ∷ []) c.place-at.ensures)

@@ -1,0 +1,14 @@
+-- `build_result` meets its contract: each answer has its number and its values.
+use borrow.Author.Rules.{rules}
+use mathlib.Core.Path.{refl, ap}
+use mathlib.Core.List.{[], ◌∷◌}
+use Rattle.wal_types.specs.declared.Offset.{Offset}
+use Rattle.depot_wal_results.proofs.build_result.Goals as goal
+
+pub returns-in-Next : goal.returns-in-Next
+returns-in-Next c = rw c.in-Next.is (refl, refl)
+
+pub returns-in-Refused : goal.returns-in-Refused
+returns-in-Refused c =
+    rw c.in-Refused.is
+    (c.number.ensures, ap (λ (o : Offset). c.args.given ∷ o.0 ∷ []) c.place-at.ensures)

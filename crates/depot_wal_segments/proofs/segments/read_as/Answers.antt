@@ -1,0 +1,19 @@
+-- `read_as` meets its contract: by the version, or BadName.
+use borrow.Author.Rules.{rules}
+use mathlib.Core.Path.{◌≡◌, refl, sym, ◌∙◌}
+use Rattle.wal_types.specs.declared.VersionFound.TheVariants.{Known, Unknown}
+use Rattle.wal_types.specs.Versions.{version_of}
+use Rattle.crc32c_format.specs.Laws.{whole_part}
+use Rattle.depot_wal_segments.proofs.segments.read_as.Goals as goal
+
+pub returns-in-Known : goal.returns-in-Known
+returns-in-Known c =
+    let a = c.args in
+    let e : version_of a.number ≡ Known c.in-Known.version = sym c.version_of-found.ensures ∙ c.in-Known.is in
+    rw e (rw (whole_part a.table.now, whole_part a.segment.now) at c.read_to_out.ensures)
+
+pub returns-in-Unknown : goal.returns-in-Unknown
+returns-in-Unknown c =
+    let e : version_of c.args.number ≡ Unknown = sym c.version_of-found.ensures ∙ c.in-Unknown.is in
+    let told = c.read_result.ensures in
+    rw e (told.0, told.1, c.count_read.ensures, refl)

@@ -1,0 +1,10 @@
+-- `shown_at` meets its contract: a row is its five numbers.
+use borrow.Author.Rules.{rules}
+use native.Mathlib.Omega.{arith}
+use Rattle.report_format.specs.Laws.Rows.{line_read}
+use Rattle.reporting.proofs.lines.shown_at.Goals as goal
+
+pub returns : goal.returns
+returns c =
+    let a = c.args in
+    rw (line_read a.report.now a.row (omega arith))

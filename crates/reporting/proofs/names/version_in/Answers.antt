@@ -1,0 +1,7 @@
+-- `version_in` meets its contract: the last part is parsed.
+use borrow.Author.Rules.{rules}
+use Rattle.reporting.proofs.Naming.{version_is}
+use Rattle.reporting.proofs.names.version_in.Goals as goal
+
+pub returns : goal.returns
+returns c = version_is _ _ _ _ c.part_start-start.ensures.0 c.parse-answer.ensures c.named.ensures
