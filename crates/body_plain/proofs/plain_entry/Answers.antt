@@ -37,7 +37,9 @@ returns-then-at-body c = entry-there _ _ _ (here (goal.at.returns-then-at-body c
 found : (c : Else-at-body) →
     let a = c.args in
     entry_place (plain_in a.plain) a.body.now a.at ≡ At (offset a.at)
-found c = here c ∙ place-before _ _ (omega (arith, c.if-body-at.false, c.if-at-body.false))
+found c =
+    plain_here (plain_in c.args.plain) c.args.body.now c.args.at (plain-plain c.args.plain) (omega (arith, c.if-at-eq0.false)) c.if-body-at.false
+    ∙ place-before _ _ (omega (arith, c.if-body-at.false, c.if-at-body.false))
 
 -- the entry of a type, told by its own reader
 of-type : {k l : PlainType} (s : List ℕ) (p : ℕ) → k ≡ l → answer_entry (entry_at (plain_in l) s p) ≡ answer_entry (entry_at (plain_in k) s p)

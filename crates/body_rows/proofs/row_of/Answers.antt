@@ -12,5 +12,5 @@ pub returns : goal.returns
 returns c =
     let a = c.args in
     ap₂ (λ (m : ℕ) (n : ℤ). row.Got (series_id m) (timestamp n) a.bits a.next)
-    (c.id_plus.ensures ∙ ap (plus a.first-id.0) c.delta_of_zigzag.ensures)
+    (c.id_plus.ensures ∙ ap (plus a.first_id.0) c.delta_of_zigzag.ensures)
     c.row_time.ensures

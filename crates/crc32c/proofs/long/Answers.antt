@@ -24,7 +24,7 @@ fold-requires c =
 
 pub slide-requires : goal.slide-requires
 slide-requires c =
-    let l : length c.fold.new.y ≡ 2338 = c.type_inv.y in
+    let l : length c.fold.new.y ≡ 2338 = omega arith in
     omega (arith, c.smaller-n.ensures)
 
 pub loop-i-smaller : goal.loop-i-smaller
@@ -36,7 +36,7 @@ loop-i-preserved c =
     let m = b.args.m.now in
     let i = b.loop-i.i in
     let n = c.smaller-n.result in
-    let l : length c.fold.new.y ≡ 2338 = c.type_inv.y in (
+    let l : length c.fold.new.y ≡ 2338 = omega arith in (
       omega (arith, c.smaller-n.ensures),
       search rules,
       window-slide onto290 multiple290 m (take (length m - i) (drop i m)) b.loop-i.y c.fold.new.y c.slide.new.y b.args.state i n b.loop-i.invariant.2
@@ -47,7 +47,7 @@ loop-i-preserved c =
 pub rest-requires : goal.rest-requires
 rest-requires c =
     let m = c.args.m.now in
-    let l : length c.clear.new.y ≡ 2338 = c.y-3-1.given in
+    let l : length c.clear.new.y ≡ 2338 = omega arith in
     (refl, length_part (length m - (length m - 290)) m (length m - 290) (omega arith) ∙ omega arith, omega (arith, l))
 
 pub returns : goal.returns

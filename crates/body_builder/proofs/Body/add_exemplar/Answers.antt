@@ -30,7 +30,7 @@ sized c h =
     let a = c.args in
     exemplar_sized _ _ _ _ _ c.list_size-list.ensures.0 h a.id.0 a.time.0 a.bits _
     (c.row_size.ensures.0
-    ∙ row_sized a.buffer.now a.self.used.0 a.id.0 (to_bits a.time.0) a.bits _ (zigzagged c))
+    ∙ row_sized a.buffer.now a.self.used.0 a.id.0 (to_bits a.time.0) a.bits _ (c.zigzags-row.ensures ∙ ap zigzags_of c.deltas_of.ensures))
 
 -- the gate, with the definition's test of the list
 gate : (c : After-admit) →
@@ -42,7 +42,9 @@ gate c = rw (← c.list_is_bad-bad.ensures) c.admit.ensures
 admitted : (c : In-Open) →
     let s = c in
     Opened s.args.buffer.now s.args.self.tag s.args.self.used.0 ((exemplar_entry s.args.id.0 s.args.time.0 s.args.bits (cut_strings s.args.strings.now s.args.lengths.now))) ((bad_list s.args.strings.now s.args.lengths.now))
-admitted c = opened _ _ _ ((exemplar_entry c.args.id.0 c.args.time.0 c.args.bits (cut_strings c.args.strings.now c.args.lengths.now))) ((bad_list c.args.strings.now c.args.lengths.now)) _ (sized c) _ (gate c) c.in-Open.is
+admitted c = opened _ _ _ ((exemplar_entry c.args.id.0 c.args.time.0 c.args.bits (cut_strings c.args.strings.now c.args.lengths.now))) ((bad_list c.args.strings.now c.args.lengths.now)) _ (λ h. exemplar_sized _ _ _ _ _ c.list_size-list.ensures.0 h c.args.id.0 c.args.time.0 c.args.bits _
+    (c.row_size.ensures.0
+    ∙ row_sized c.args.buffer.now c.args.self.used.0 c.args.id.0 (to_bits c.args.time.0) c.args.bits _ (c.zigzags-row.ensures ∙ ap zigzags_of c.deltas_of.ensures))) _ (rw (← c.list_is_bad-bad.ensures) c.admit.ensures) c.in-Open.is
 
 -- the room for the row and the list
 room : (c : In-Open) →
@@ -58,12 +60,12 @@ pub put_row-labels-requires : goal.put_row-labels-requires
 put_row-labels-requires c = (zigzagged (goal.at.put_row-labels-requires c).After-zigzags-row, omega (arith, room (goal.at.put_row-labels-requires c).In-Open, length-append ((row_bytes c.args.buffer.now c.args.self.used.0 c.args.id.0 (to_bits c.args.time.0) c.args.bits)) ((string_list_bytes (cut_strings c.args.strings.now c.args.lengths.now)))))
 
 pub put_list-next-requires : goal.put_list-next-requires
-put_list-next-requires c = (good-sum _ _ (admitted (goal.at.put_list-next-requires c).In-Open).list, room_then _ _ _ _ ((row_bytes c.args.buffer.now c.args.self.used.0 c.args.id.0 (to_bits c.args.time.0) c.args.bits)) ((string_list_bytes (cut_strings c.args.strings.now c.args.lengths.now))) (room (goal.at.put_list-next-requires c).In-Open) c.put_row-labels.ensures)
+put_list-next-requires c = (good-sum _ _ (admitted (goal.at.put_list-next-requires c).In-Open).list, room_then _ _ _ _ ((row_bytes c.args.buffer.now c.args.self.used.0 c.args.id.0 (to_bits c.args.time.0) c.args.bits)) ((string_list_bytes (cut_strings c.args.strings.now c.args.lengths.now))) (room (goal.at.put_list-next-requires c).In-Open) (c.put_row-labels.ensures.value, c.put_row-labels.ensures.buffer_after))
 
 pub returns-in-Open : goal.returns-in-Open
 unfolding entry_bytes
 returns-in-Open c = let both = finished _ _ _ ((exemplar_entry c.args.id.0 c.args.time.0 c.args.bits (cut_strings c.args.strings.now c.args.lengths.now))) ((bad_list c.args.strings.now c.args.lengths.now)) _ _ (admitted (goal.at.returns-in-Open c).In-Open)
-    (put_then _ _ _ _ ((row_bytes c.args.buffer.now c.args.self.used.0 c.args.id.0 (to_bits c.args.time.0) c.args.bits)) ((string_list_bytes (cut_strings c.args.strings.now c.args.lengths.now))) (room (goal.at.returns-in-Open c).In-Open) _ _ c.put_row-labels.ensures c.put_list-next.ensures) in record { answer = both.0; bytes = both.1 }
+    (put_then _ _ _ _ ((row_bytes c.args.buffer.now c.args.self.used.0 c.args.id.0 (to_bits c.args.time.0) c.args.bits)) ((string_list_bytes (cut_strings c.args.strings.now c.args.lengths.now))) (room (goal.at.returns-in-Open c).In-Open) _ _ (c.put_row-labels.ensures.value, c.put_row-labels.ensures.buffer_after) (c.put_list-next.ensures.value, c.put_list-next.ensures.buffer_after)) in record { answer = both.0; bytes = both.1 }
 
 pub returns-in-Shut : goal.returns-in-Shut
 returns-in-Shut c = let both = shut _ _ _ ((exemplar_entry c.args.id.0 c.args.time.0 c.args.bits (cut_strings c.args.strings.now c.args.lengths.now))) ((bad_list c.args.strings.now c.args.lengths.now)) _ (sized (goal.at.returns-in-Shut c).After-row_size) _ (gate (goal.at.returns-in-Shut c).After-admit) c.in-Shut.is in record { answer = both.0; bytes = both.1 }

@@ -25,12 +25,14 @@ unfolding entry_bytes
 sized c h =
     let s = c in
     exact (c.row_size-size.ensures.0
-    ∙ row_sized s.args.buffer.now s.args.self.used.0 s.args.id.0 (to_bits s.args.time.0) s.args.bits _ (zigzagged c))
+    ∙ row_sized s.args.buffer.now s.args.self.used.0 s.args.id.0 (to_bits s.args.time.0) s.args.bits _ (c.zigzags-row.ensures ∙ ap zigzags_of c.deltas_of.ensures))
 
 admitted : (c : In-Open) →
     let s = c in
     Opened s.args.buffer.now s.args.self.tag s.args.self.used.0 ((sample_entry s.args.id.0 s.args.time.0 s.args.bits)) false
-admitted c = opened _ _ _ ((sample_entry c.args.id.0 c.args.time.0 c.args.bits)) false _ (sized c) _ c.admit.ensures c.in-Open.is
+unfolding entry_bytes
+admitted c = opened _ _ _ ((sample_entry c.args.id.0 c.args.time.0 c.args.bits)) false _ (λ h. exact (c.row_size-size.ensures.0
+    ∙ row_sized c.args.buffer.now c.args.self.used.0 c.args.id.0 (to_bits c.args.time.0) c.args.bits _ (c.zigzags-row.ensures ∙ ap zigzags_of c.deltas_of.ensures))) _ c.admit.ensures c.in-Open.is
 
 pub put_row-next-requires : goal.put_row-next-requires
 unfolding entry_bytes
@@ -38,7 +40,7 @@ put_row-next-requires c = (zigzagged (goal.at.put_row-next-requires c).After-zig
 
 pub returns-in-Open : goal.returns-in-Open
 unfolding entry_bytes
-returns-in-Open c = let both = finished _ _ _ ((sample_entry c.args.id.0 c.args.time.0 c.args.bits)) false _ _ (admitted (goal.at.returns-in-Open c).In-Open) c.put_row-next.ensures in record { answer = both.0; bytes = both.1 }
+returns-in-Open c = let both = finished _ _ _ ((sample_entry c.args.id.0 c.args.time.0 c.args.bits)) false _ _ (admitted (goal.at.returns-in-Open c).In-Open) (c.put_row-next.ensures.value, c.put_row-next.ensures.buffer_after) in record { answer = both.0; bytes = both.1 }
 
 pub returns-in-Shut : goal.returns-in-Shut
 returns-in-Shut c = let both = shut _ _ _ ((sample_entry c.args.id.0 c.args.time.0 c.args.bits)) false _ (sized (goal.at.returns-in-Shut c).After-row_size-size) _ c.admit.ensures c.in-Shut.is in record { answer = both.0; bytes = both.1 }

@@ -27,7 +27,7 @@ gate c = rw (← c.list_is_bad-bad.ensures) c.admit.ensures
 admitted : (c : In-Open) →
     let s = c in
     Opened s.args.buffer.now s.args.self.tag s.args.self.used.0 ((series_entry s.args.id.0 (cut_strings s.args.strings.now s.args.lengths.now))) ((bad_list s.args.strings.now s.args.lengths.now))
-admitted c = opened _ _ _ ((series_entry c.args.id.0 (cut_strings c.args.strings.now c.args.lengths.now))) ((bad_list c.args.strings.now c.args.lengths.now)) _ (sized c) _ (gate c) c.in-Open.is
+admitted c = opened _ _ _ ((series_entry c.args.id.0 (cut_strings c.args.strings.now c.args.lengths.now))) ((bad_list c.args.strings.now c.args.lengths.now)) _ (λ h. series-sized _ _ _ _ _ c.list_size-list.ensures.0 h c.args.id.0) _ (rw (← c.list_is_bad-bad.ensures) c.admit.ensures) c.in-Open.is
 
 pub overflow_add-size : goal.overflow_add-size
 overflow_add-size c = omega (arith, c.list_size-list.ensures.1)
@@ -36,7 +36,7 @@ pub put_series-next-requires : goal.put_series-next-requires
 put_series-next-requires c = (good-sum _ _ (admitted (goal.at.put_series-next-requires c).In-Open).list, (admitted (goal.at.put_series-next-requires c).In-Open).room)
 
 pub returns-in-Open : goal.returns-in-Open
-returns-in-Open c = let both = finished _ _ _ ((series_entry c.args.id.0 (cut_strings c.args.strings.now c.args.lengths.now))) ((bad_list c.args.strings.now c.args.lengths.now)) _ _ (admitted (goal.at.returns-in-Open c).In-Open) c.put_series-next.ensures in record { answer = both.0; bytes = both.1 }
+returns-in-Open c = let both = finished _ _ _ ((series_entry c.args.id.0 (cut_strings c.args.strings.now c.args.lengths.now))) ((bad_list c.args.strings.now c.args.lengths.now)) _ _ (admitted (goal.at.returns-in-Open c).In-Open) (c.put_series-next.ensures.value, c.put_series-next.ensures.buffer_after) in record { answer = both.0; bytes = both.1 }
 
 pub returns-in-Shut : goal.returns-in-Shut
 returns-in-Shut c = let both = shut _ _ _ ((series_entry c.args.id.0 (cut_strings c.args.strings.now c.args.lengths.now))) ((bad_list c.args.strings.now c.args.lengths.now)) _ (sized (goal.at.returns-in-Shut c).After-list_size-list) _ (gate (goal.at.returns-in-Shut c).After-admit) c.in-Shut.is in record { answer = both.0; bytes = both.1 }

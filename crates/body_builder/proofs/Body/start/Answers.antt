@@ -19,12 +19,14 @@ none (known k) h = let z : ◌≡◌ {A = ℕ} 0 1 = cc in absurd (omega arith)
 none unknown h = refl
 
 pub returns-then-not-is_known : goal.returns-then-not-is_known
-returns-then-not-is_known c = let both = rw (start-unknown _ _ (none _ (sym c.is_known.ensures ∙ not-true _ c.if-not-is_known.true))) (refl, refl) in record { answer = both.0; bytes = both.1 }
+returns-then-not-is_known c = let e = start-unknown c.args.buffer.now c.args.tag (none _ (sym c.is_known.ensures ∙ c.if-not-is_known.true)) in record { answer = rw e; bytes = rw e }
 
 pub returns-then-buffer-eq0 : goal.returns-then-buffer-eq0
 returns-then-buffer-eq0 c =
-    let k = some _ (sym c.is_known.ensures ∙ not-false _ c.if-not-is_known.false) in let both = rw (start_no_room _ _ k.0 k.1 c.if-buffer-eq0.true) (refl, refl) in record { answer = both.0; bytes = both.1 }
+    let k = some _ (sym c.is_known.ensures ∙ c.if-not-is_known.false) in
+    let e = start_no_room c.args.buffer.now c.args.tag k.0 k.1 c.if-buffer-eq0.true in record { answer = rw e; bytes = rw e }
 
 pub returns : goal.returns
 returns c =
-    let k = some _ (sym c.is_known.ensures ∙ not-false _ c.if-not-is_known.false) in let both = rw (start-used c.args.buffer.now _ k.0 k.1 (omega arith)) (refl, refl) in record { answer = both.0; bytes = both.1 }
+    let k = some _ (sym c.is_known.ensures ∙ c.if-not-is_known.false) in
+    let e = start-used c.args.buffer.now c.args.tag k.0 k.1 (omega arith) in record { answer = rw e; bytes = rw e }

@@ -23,7 +23,7 @@ inside c = state_inside _ _ _ (omega arith) (omega arith)
 rows : (c : Else-buffer-tag) →
     let a = c.args in
     bad_state a.buffer.now a.tag a.used ≡ (rows_known (body_type_of a.tag) && (leb 2 a.used && leb a.used 16))
-rows c = rw (inside c, eq-eqb _ _ c.if-buffer-tag.false, or-false _)
+rows c = rw (state_inside c.args.buffer.now c.args.tag c.args.used (omega arith) (omega arith), eq-eqb _ _ c.if-buffer-tag.false, or-false _)
 
 pub returns-then-used-eq0 : goal.returns-then-used-eq0
 returns-then-used-eq0 c = sym (state_zero _ _ _ c.if-used-eq0.true)

@@ -19,7 +19,7 @@ whole : (c : After-slice_known-3-1) →
 unfolding entry_bytes
 whole c =
     let w = c.put_uvarint-second.ensures in
-    byte_laid _ _ _ _ c.args.id.0 c.args.metric ((string_list_bytes (cut_strings c.args.strings.now c.args.lengths.now))) c.requires.1 w.value w.buf_after _ _ c.put_list.ensures
+    byte_laid _ _ _ _ c.args.id.0 c.args.metric ((string_list_bytes (cut_strings c.args.strings.now c.args.lengths.now))) c.requires.1 w.value w.buf_after _ _ (c.put_list.ensures.value, c.put_list.ensures.buffer_after)
 
 pub bounds-buffer-second : goal.bounds-buffer-second
 unfolding entry_bytes

@@ -20,4 +20,4 @@ put_list-requires c = (c.requires.0, room_then _ _ _ _ (be8 c.args.id.0) ((strin
 
 pub returns : goal.returns
 unfolding entry_bytes
-returns c = let both = put_then _ _ _ _ (be8 c.args.id.0) ((string_list_bytes (cut_strings c.args.strings.now c.args.lengths.now))) c.requires.1 _ _ (first (goal.at.returns c).After-put_be8-list) c.put_list.ensures in record { value = both.0; buffer_after = both.1 }
+returns c = let both = put_then _ _ _ _ (be8 c.args.id.0) ((string_list_bytes (cut_strings c.args.strings.now c.args.lengths.now))) c.requires.1 _ _ (first (goal.at.returns c).After-put_be8-list) (c.put_list.ensures.value, c.put_list.ensures.buffer_after) in record { value = both.0; buffer_after = both.1 }

@@ -1,6 +1,7 @@
 -- `put_tombstone` meets its contract: three puts in a row.
-use borrow.Author.Rules.{rules, sfits_of}
+use borrow.Author.Rules.{rules}
 use mir.Syntax.{w64}
+use mir.Val.{SFits}
 use mir.Facts.{to_z-of_z}
 use Rattle.varint.specs.Varint.{varint}
 use Rattle.big_endian.specs.Fixed.{be8}
@@ -13,5 +14,7 @@ unfolding entry_bytes
 returns c =
     let a = c.args in
     let u = c.put_be8-second.ensures in
-    let v = rw (to_z-of_z {w = w64} (sfits_of c.type_inv.min.0.1)) at c.put_varint-third.ensures in
-    let w = rw (to_z-of_z {w = w64} (sfits_of c.type_inv.max.0.1)) at c.put_varint.ensures in let both = put_three a.buffer.now _ _ _ a.at _ _ _ (be8 a.id.0) (varint a.min.0) (varint a.max.0) c.requires u.value u.buf_after v.0 v.1 w.0 w.1 in record { value = both.0; buffer_after = both.1 }
+    let f : SFits w64 c.args.min.0 = search rules in
+    let g : SFits w64 c.args.max.0 = search rules in
+    let v = rw (to_z-of_z {w = w64} f) at c.put_varint-third.ensures in
+    let w = rw (to_z-of_z {w = w64} g) at c.put_varint.ensures in let both = put_three a.buffer.now _ _ _ a.at _ _ _ (be8 a.id.0) (varint a.min.0) (varint a.max.0) c.requires u.value u.buf_after v.value v.buf_after w.value w.buf_after in record { value = both.0; buffer_after = both.1 }

@@ -20,7 +20,7 @@ zigzagged c = c.zigzags-row.ensures ∙ ap zigzags_of c.deltas_of.ensures
 sized : (c : After-row_size-size) →
     let a = c.args in
     c.row_size-size.result ≡ length (row_bytes a.buffer.now a.at a.id.0 (to_bits a.time.0) a.bits)
-sized c = c.row_size-size.ensures.0 ∙ row_sized _ _ _ _ c.args.bits _ (zigzagged c)
+sized c = c.row_size-size.ensures.0 ∙ row_sized _ _ _ _ c.args.bits _ (c.zigzags-row.ensures ∙ ap zigzags_of c.deltas_of.ensures)
 
 pub returns-then-buffer-at : goal.returns-then-buffer-at
 returns-then-buffer-at c =

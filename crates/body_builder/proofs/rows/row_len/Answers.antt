@@ -17,5 +17,4 @@ pub returns : goal.returns
 returns c = (
   λ bits. c.row_size.ensures.0 ∙ row_sized _ _ _ _ bits _ (zigzagged (goal.at.returns c).After-zigzags-row),
   c.row_size.ensures.1,
-
 )

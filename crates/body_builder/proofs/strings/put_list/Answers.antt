@@ -10,4 +10,4 @@ put_strings-requires c =
 
 pub returns : goal.returns
 returns c =
-    let w = c.put_uvarint-first.ensures in let both = list-laid _ _ _ _ c.requires.1 _ _ w.value w.buf_after _ _ c.put_strings.ensures in record { value = both.0; buffer_after = both.1 }
+    let w = c.put_uvarint-first.ensures in let both = list-laid _ _ _ _ c.requires.1 _ _ w.value w.buf_after _ _ (c.put_strings.ensures.value, c.put_strings.ensures.buffer_after) in record { value = both.0; buffer_after = both.1 }

@@ -10,15 +10,12 @@ use Rattle.varint.specs.Varint.{unzigzag}
 use Rattle.numbers.specs.Signs.{minus_pos}
 use Rattle.body_histogram.proofs.fields.zigzag_back_32.Goals as goal
 
-pub overflow_sub-result : goal.overflow_sub-result
-overflow_sub-result c = rw (to_z_pos w32 ((omega arith)), minus_pos) (record { sfits = (omega arith) })
-
 pub returns-then-u-eq0 : goal.returns-then-u-eq0
 unfolding unzigzag
-returns-then-u-eq0 c = to_z_pos w32 ((omega arith)) ∙ rw (eq-eqb _ _ c.if-u-eq0.true, unzigzag)
+returns-then-u-eq0 c = to_z_pos w32 {n = c.args.u / 2} (omega arith) ∙ rw (eq-eqb _ _ c.if-u-eq0.true, unzigzag)
 
 pub returns-else-u-eq0 : goal.returns-else-u-eq0
 unfolding unzigzag
 returns-else-u-eq0 c =
-    rw (to_z_pos w32 ((omega arith)), minus_pos (c.args.u / 2), ne_eqb _ _ c.if-u-eq0.false, unzigzag)
+    rw (to_z_pos w32 {n = c.args.u / 2} (omega arith), minus_pos (c.args.u / 2), ne_eqb _ _ c.if-u-eq0.false, unzigzag)
     (to_z-of_z {w = w32} (record { sfits = (omega arith) }))
