@@ -34,7 +34,7 @@ sized c h =
     let a = c.args in
     let good = good-sides ((lent c.args.po.now c.args.pl.now c.args.mo.now c.args.ml.now c.args.pb.now c.args.mb.now)).spans.positive ((lent c.args.po.now c.args.pl.now c.args.mo.now c.args.ml.now c.args.pb.now c.args.mb.now)).spans.negative h in
     histogram-sized a.buffer.now a.body.used.0 a.kind (histogram_of a.id.0 a.time.0 a.numbers ((lent c.args.po.now c.args.pl.now c.args.mo.now c.args.ml.now c.args.pb.now c.args.mb.now))) _ _ _
-    (c.head_size.ensures.0 ∙ head-sized a.buffer.now a.body.used.0 a.id.0 (to_bits a.time.0) _ (zigzagged c))
+    (c.head_size.ensures.0 ∙ head-sized a.buffer.now a.body.used.0 a.id.0 (to_bits a.time.0) _ (c.zigzags-row.ensures ∙ ap zigzags_of c.deltas_of.ensures))
     c.numbers_size.ensures.0
     (c.lists_size-lists.ensures.0 good.0 good.1)
 
@@ -48,7 +48,14 @@ gate c = rw (← c.sides_are_bad-bad.ensures, ← c.tag_of.ensures) c.admit.ensu
 admitted : (c : In-Open) →
     let s = c in
     Opened s.args.buffer.now s.args.body.tag s.args.body.used.0 ((histogram_entry s.args.kind (histogram_of s.args.id.0 s.args.time.0 s.args.numbers ((lent s.args.po.now s.args.pl.now s.args.mo.now s.args.ml.now s.args.pb.now s.args.mb.now))))) ((bad_spans ((lent s.args.po.now s.args.pl.now s.args.mo.now s.args.ml.now s.args.pb.now s.args.mb.now)).spans.positive || bad_spans ((lent s.args.po.now s.args.pl.now s.args.mo.now s.args.ml.now s.args.pb.now s.args.mb.now)).spans.negative))
-admitted c = opened _ _ _ ((histogram_entry c.args.kind (histogram_of c.args.id.0 c.args.time.0 c.args.numbers ((lent s.args.po.now s.args.pl.now s.args.mo.now s.args.ml.now s.args.pb.now s.args.mb.now))))) ((bad_spans ((lent s.args.po.now s.args.pl.now s.args.mo.now s.args.ml.now s.args.pb.now s.args.mb.now)).spans.positive || bad_spans ((lent s.args.po.now s.args.pl.now s.args.mo.now s.args.ml.now s.args.pb.now s.args.mb.now)).spans.negative)) _ (sized c) _ (gate c) c.in-Open.is
+unfolding entry_bytes
+admitted c = opened _ _ _ ((histogram_entry c.args.kind (histogram_of c.args.id.0 c.args.time.0 c.args.numbers ((lent c.args.po.now c.args.pl.now c.args.mo.now c.args.ml.now c.args.pb.now c.args.mb.now))))) ((bad_spans ((lent c.args.po.now c.args.pl.now c.args.mo.now c.args.ml.now c.args.pb.now c.args.mb.now)).spans.positive || bad_spans ((lent c.args.po.now c.args.pl.now c.args.mo.now c.args.ml.now c.args.pb.now c.args.mb.now)).spans.negative)) _ (λ h.
+    let a = c.args in
+    let good = good-sides ((lent c.args.po.now c.args.pl.now c.args.mo.now c.args.ml.now c.args.pb.now c.args.mb.now)).spans.positive ((lent c.args.po.now c.args.pl.now c.args.mo.now c.args.ml.now c.args.pb.now c.args.mb.now)).spans.negative h in
+    histogram-sized a.buffer.now a.body.used.0 a.kind (histogram_of a.id.0 a.time.0 a.numbers ((lent c.args.po.now c.args.pl.now c.args.mo.now c.args.ml.now c.args.pb.now c.args.mb.now))) _ _ _
+    (c.head_size.ensures.0 ∙ head-sized a.buffer.now a.body.used.0 a.id.0 (to_bits a.time.0) _ (c.zigzags-row.ensures ∙ ap zigzags_of c.deltas_of.ensures))
+    c.numbers_size.ensures.0
+    (c.lists_size-lists.ensures.0 good.0 good.1)) _ (rw (← c.sides_are_bad-bad.ensures, ← c.tag_of.ensures) c.admit.ensures) c.in-Open.is
 
 pub overflow_add-fixed : goal.overflow_add-fixed
 overflow_add-fixed c = omega (arith, c.head_size.ensures.1, c.numbers_size.ensures.1)
@@ -65,7 +72,7 @@ put_histogram-next-requires c =
 
 pub returns-in-Open : goal.returns-in-Open
 unfolding entry_bytes
-returns-in-Open c = let both = finished _ _ _ ((histogram_entry c.args.kind (histogram_of c.args.id.0 c.args.time.0 c.args.numbers ((lent s.args.po.now s.args.pl.now s.args.mo.now s.args.ml.now s.args.pb.now s.args.mb.now))))) ((bad_spans ((lent s.args.po.now s.args.pl.now s.args.mo.now s.args.ml.now s.args.pb.now s.args.mb.now)).spans.positive || bad_spans ((lent s.args.po.now s.args.pl.now s.args.mo.now s.args.ml.now s.args.pb.now s.args.mb.now)).spans.negative)) _ _ (admitted (goal.at.returns-in-Open c).In-Open) c.put_histogram-next.ensures in record { answer = both.0; bytes = both.1 }
+returns-in-Open c = let both = finished _ _ _ ((histogram_entry c.args.kind (histogram_of c.args.id.0 c.args.time.0 c.args.numbers ((lent c.args.po.now c.args.pl.now c.args.mo.now c.args.ml.now c.args.pb.now c.args.mb.now))))) ((bad_spans ((lent c.args.po.now c.args.pl.now c.args.mo.now c.args.ml.now c.args.pb.now c.args.mb.now)).spans.positive || bad_spans ((lent c.args.po.now c.args.pl.now c.args.mo.now c.args.ml.now c.args.pb.now c.args.mb.now)).spans.negative)) _ _ (admitted (goal.at.returns-in-Open c).In-Open) (c.put_histogram-next.ensures.value, c.put_histogram-next.ensures.buffer_after) in record { answer = both.0; bytes = both.1 }
 
 pub returns-in-Shut : goal.returns-in-Shut
-returns-in-Shut c = let both = shut _ _ _ ((histogram_entry c.args.kind (histogram_of c.args.id.0 c.args.time.0 c.args.numbers ((lent s.args.po.now s.args.pl.now s.args.mo.now s.args.ml.now s.args.pb.now s.args.mb.now))))) ((bad_spans ((lent s.args.po.now s.args.pl.now s.args.mo.now s.args.ml.now s.args.pb.now s.args.mb.now)).spans.positive || bad_spans ((lent s.args.po.now s.args.pl.now s.args.mo.now s.args.ml.now s.args.pb.now s.args.mb.now)).spans.negative)) _ (sized (goal.at.returns-in-Shut c).After-lists_size-lists) _ (gate (goal.at.returns-in-Shut c).After-admit) c.in-Shut.is in record { answer = both.0; bytes = both.1 }
+returns-in-Shut c = let both = shut _ _ _ ((histogram_entry c.args.kind (histogram_of c.args.id.0 c.args.time.0 c.args.numbers ((lent c.args.po.now c.args.pl.now c.args.mo.now c.args.ml.now c.args.pb.now c.args.mb.now))))) ((bad_spans ((lent c.args.po.now c.args.pl.now c.args.mo.now c.args.ml.now c.args.pb.now c.args.mb.now)).spans.positive || bad_spans ((lent c.args.po.now c.args.pl.now c.args.mo.now c.args.ml.now c.args.pb.now c.args.mb.now)).spans.negative)) _ (sized (goal.at.returns-in-Shut c).After-lists_size-lists) _ (gate (goal.at.returns-in-Shut c).After-admit) c.in-Shut.is in record { answer = both.0; bytes = both.1 }

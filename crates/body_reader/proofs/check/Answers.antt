@@ -52,4 +52,4 @@ returns-in-Fault c =
 pub returns-in-Refused : goal.returns-in-Refused
 returns-in-Refused c =
     let type = c in
-    sym (check_type _ ∙ ap (by_type CheckRefused _) (sym type.body_type.ensures ∙ c.in-Refused.is))
+    sym (check_type _ ∙ ap (by_type CheckRefused (λ k. check_known (known k) c.args.body.now)) (sym type.body_type.ensures ∙ c.in-Refused.is))

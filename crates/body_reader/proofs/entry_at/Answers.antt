@@ -42,4 +42,4 @@ returns-in-Histograms c =
 pub returns-in-Refused : goal.returns-in-Refused
 returns-in-Refused c =
     let type = c in
-    sym (entry_type _ _ ∙ ap (by_type EntryRefused _) (sym type.body_type.ensures ∙ c.in-Refused.is))
+    sym (entry_type _ _ ∙ ap (by_type EntryRefused (λ k. entry_known (known k) c.args.body.now c.args.place.0)) (sym type.body_type.ensures ∙ c.in-Refused.is))

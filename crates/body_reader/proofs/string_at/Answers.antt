@@ -69,4 +69,4 @@ returns-in-Fault c =
 pub returns-in-Refused : goal.returns-in-Refused
 returns-in-Refused c =
     let type = c in
-    sym (string_type _ _ ∙ ap (by_type StringRefused _) (sym type.body_type.ensures ∙ c.in-Refused.is))
+    sym (string_type _ _ ∙ ap (by_type StringRefused (λ k. string_known (known k) c.args.body.now c.args.place.0)) (sym type.body_type.ensures ∙ c.in-Refused.is))

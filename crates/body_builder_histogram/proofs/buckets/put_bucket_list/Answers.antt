@@ -11,4 +11,4 @@ put_buckets-requires c =
 
 pub returns : goal.returns
 returns c =
-    let w = c.put_uvarint-first.ensures in let both = list-laid _ _ _ _ c.requires _ _ _ refl w.value w.buf_after _ _ c.put_buckets.ensures in record { value = both.0; buffer_after = both.1 }
+    let w = c.put_uvarint-first.ensures in let both = list-laid _ _ _ _ c.requires _ _ _ refl w.value w.buf_after _ _ (c.put_buckets.ensures.value, c.put_buckets.ensures.buffer_after) in record { value = both.0; buffer_after = both.1 }

@@ -16,8 +16,8 @@ put_bucket_list-second-requires c =
 pub put_bucket_list-requires : goal.put_bucket_list-requires
 put_bucket_list-requires c =
     let s = c in
-    negative-room (element.Bucket s.args.kind) ((sides s.args.positive.now s.args.negative.now)) s.args.buffer.now _ s.requires _ _ c.put_bucket_list-second.ensures
+    negative-room (element.Bucket s.args.kind) ((sides s.args.positive.now s.args.negative.now)) s.args.buffer.now _ s.requires _ _ (c.put_bucket_list-second.ensures.value, c.put_bucket_list-second.ensures.buffer_after)
 
 pub returns : goal.returns
 returns c =
-    let s = c in let both = sides-laid (element.Bucket s.args.kind) ((sides s.args.positive.now s.args.negative.now)) s.args.buffer.now _ s.requires _ _ c.put_bucket_list-second.ensures _ _ c.put_bucket_list.ensures in record { value = both.0; buffer_after = both.1 }
+    let s = c in let both = sides-laid (element.Bucket s.args.kind) ((sides s.args.positive.now s.args.negative.now)) s.args.buffer.now _ s.requires _ _ (c.put_bucket_list-second.ensures.value, c.put_bucket_list-second.ensures.buffer_after) _ _ (c.put_bucket_list.ensures.value, c.put_bucket_list.ensures.buffer_after) in record { value = both.0; buffer_after = both.1 }

@@ -42,8 +42,8 @@ put_head-second-requires c =
 pub put_numbers-requires : goal.put_numbers-requires
 put_numbers-requires c =
     let a = c.args in
-    front-numbers-room a.buffer.now a.at a.kind a.id.0 (to_bits a.time.0) a.numbers (fits (goal.at.put_numbers-requires c).After-put_head-arg-1) _ _ c.put_head-second.ensures
+    front-numbers-room a.buffer.now a.at a.kind a.id.0 (to_bits a.time.0) a.numbers (fits (goal.at.put_numbers-requires c).After-put_head-arg-1) _ _ (c.put_head-second.ensures.value, c.put_head-second.ensures.buffer_after)
 
 pub returns : goal.returns
 returns c =
-    let a = c.args in let both = front-laid a.buffer.now a.at a.kind a.id.0 (to_bits a.time.0) a.numbers (fits (goal.at.returns c).After-put_head-arg-1) _ _ c.put_head-second.ensures _ _ c.put_numbers.ensures in record { value = both.0; buffer_after = both.1 }
+    let a = c.args in let both = front-laid a.buffer.now a.at a.kind a.id.0 (to_bits a.time.0) a.numbers (fits (goal.at.returns c).After-put_head-arg-1) _ _ (c.put_head-second.ensures.value, c.put_head-second.ensures.buffer_after) _ _ (c.put_numbers.ensures.value, c.put_numbers.ensures.buffer_after) in record { value = both.0; buffer_after = both.1 }

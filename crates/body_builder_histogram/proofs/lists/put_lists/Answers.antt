@@ -16,8 +16,8 @@ put_span_sides-buckets-requires c =
 pub put_bucket_sides-requires : goal.put_bucket_sides-requires
 put_bucket_sides-requires c =
     let s = c in
-    buckets-room s.args.kind ((lent_lists (lent s.args.po.now s.args.pl.now s.args.mo.now s.args.ml.now s.args.pb.now s.args.mb.now))) s.args.buffer.now _ s.requires.2 _ _ c.put_span_sides-buckets.ensures
+    buckets-room s.args.kind ((lent_lists (lent s.args.po.now s.args.pl.now s.args.mo.now s.args.ml.now s.args.pb.now s.args.mb.now))) s.args.buffer.now _ s.requires.2 _ _ (c.put_span_sides-buckets.ensures.value, c.put_span_sides-buckets.ensures.buffer_after)
 
 pub returns : goal.returns
 returns c =
-    let s = c in let both = lists-laid s.args.kind ((lent_lists (lent s.args.po.now s.args.pl.now s.args.mo.now s.args.ml.now s.args.pb.now s.args.mb.now))) s.args.buffer.now _ s.requires.2 _ _ c.put_span_sides-buckets.ensures _ _ c.put_bucket_sides.ensures in record { value = both.0; buffer_after = both.1 }
+    let s = c in let both = lists-laid s.args.kind ((lent_lists (lent s.args.po.now s.args.pl.now s.args.mo.now s.args.ml.now s.args.pb.now s.args.mb.now))) s.args.buffer.now _ s.requires.2 _ _ (c.put_span_sides-buckets.ensures.value, c.put_span_sides-buckets.ensures.buffer_after) _ _ (c.put_bucket_sides.ensures.value, c.put_bucket_sides.ensures.buffer_after) in record { value = both.0; buffer_after = both.1 }

@@ -4,7 +4,7 @@ use Rattle.body_builder_histogram.proofs.Fields.{whole-count, float_count}
 use Rattle.body_builder_histogram.proofs.numbers.put_count.Goals as goal
 
 pub returns-in-Whole : goal.returns-in-Whole
-returns-in-Whole c = let both = rw (← whole-count _ _ c.in-Whole.is) c.put_uvarint.ensures in record { value = both.0; buffer_after = both.1 }
+returns-in-Whole c = record { value = rw (← whole-count _ _ c.in-Whole.is) c.put_uvarint.ensures.value; buffer_after = rw (← whole-count _ _ c.in-Whole.is) c.put_uvarint.ensures.buf_after }
 
 pub returns-in-Float : goal.returns-in-Float
-returns-in-Float c = let both = rw (← float_count _ _ c.in-Float.is) c.put_be8.ensures in record { value = both.0; buffer_after = both.1 }
+returns-in-Float c = record { value = rw (← float_count _ _ c.in-Float.is) c.put_be8.ensures.value; buffer_after = rw (← float_count _ _ c.in-Float.is) c.put_be8.ensures.buf_after }

@@ -5,6 +5,7 @@ use mathlib.Core.Path.{◌∙◌, ap}
 use lib.ListN.{length}
 use lib.Seq.{length-sets}
 use mir.Facts.{to_z-of_z}
+use mir.Val.{SFits}
 use mir.Syntax.{w32, w64}
 use Rattle.body_format.specs.Histograms.{numbers_bytes}
 use Rattle.body_builder.specs.Laws.Putting.{Put}
@@ -18,13 +19,14 @@ laid : (c : After-slice_known-6-1) →
     Put a.buffer.now a.at (numbers_bytes a.kind a.numbers) c.put_be8.new.buf c.put_be8.result
 laid c =
     let s = c in
-    let x = to_z-of_z {w = w64} (sfits_of c.wide.type_inv) ∙ c.wide.ensures ∙ to_z-of_z {w = w32} (sfits_of c.type_inv.numbers.1.0.1) in
+    let fits : SFits w32 c.args.numbers.schema = search rules in
+    let x = to_z-of_z {w = w64} (sfits_of c.wide.type_inv) ∙ c.wide.ensures ∙ to_z-of_z {w = w32} {z = c.args.numbers.schema} fits in
     let v = rw x at c.put_varint-threshold.ensures in
     let w = c.put_be8-zeros.ensures in
     let z = c.put_count-count.ensures in
     let n = c.put_count-sum.ensures in
     let t = c.put_be8.ensures in
-    numbers-laid _ _ _ _ s.requires _ _ _ _ _ _ _ _ _ _ v.0 v.1 w.value w.buf_after z.value z.buffer_after n.value n.buffer_after t.value t.buf_after
+    numbers-laid _ _ _ _ s.requires _ _ _ _ _ _ _ _ _ _ v.value v.buf_after w.value w.buf_after z.value z.buffer_after n.value n.buffer_after t.value t.buf_after
 
 pub bounds-buffer-at : goal.bounds-buffer-at
 bounds-buffer-at c = hint-room _ _ c.args.buffer.now _ c.requires

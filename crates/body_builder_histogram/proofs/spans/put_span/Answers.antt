@@ -13,4 +13,4 @@ returns c =
     let s = c in
     let x = to_z-of_z {w = w64} (sfits_of c.wide.type_inv) ∙ c.wide.ensures ∙ to_z-of_z {w = w32} s.ranges.offset in
     let v = rw x at c.put_varint-second.ensures in
-    let w = c.put_uvarint.ensures in let both = put_two _ _ _ _ _ _ _ _ s.requires v.0 v.1 w.value w.buf_after in record { value = both.0; buffer_after = both.1 }
+    let w = c.put_uvarint.ensures in let both = put_two _ _ _ _ _ _ _ _ s.requires v.value v.buf_after w.value w.buf_after in record { value = both.0; buffer_after = both.1 }

@@ -34,4 +34,4 @@ returns c =
     let s = c in
     let n = sized (goal.at.returns c).After-span_size-bytes in
     let w = rw (to_z-of_z {w = w32} s.ranges.offset) at c.put_span.ensures in
-    record { value = w.0 ∙ sym (end_fits _ _ _ (omega (arith, n))); buffer_after = w.1 ∙ sym (put-fits _ _ _ (omega (arith, n))) }
+    record { value = w.value ∙ sym (end_fits _ _ _ (omega (arith, n))); buffer_after = w.buffer_after ∙ sym (put-fits _ _ _ (omega (arith, n))) }

@@ -15,4 +15,4 @@ pub returns : goal.returns
 returns c =
     let s = c in
     let few = length-spans s.args.offsets.now s.args.lengths.now s.requires.0 in
-    let w = c.put_uvarint-first.ensures in let both = list-laid _ _ _ _ s.requires.1 _ _ _ (sym few) w.value w.buf_after _ _ c.put_spans.ensures in record { value = both.0; buffer_after = both.1 }
+    let w = c.put_uvarint-first.ensures in let both = list-laid _ _ _ _ s.requires.1 _ _ _ (sym few) w.value w.buf_after _ _ (c.put_spans.ensures.value, c.put_spans.ensures.buffer_after) in record { value = both.0; buffer_after = both.1 }

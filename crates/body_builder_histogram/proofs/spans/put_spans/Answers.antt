@@ -28,7 +28,7 @@ loop-i-preserved c =
     let h = c.loop-i-test.true in
     let few = length-spans s.args.offsets.now s.args.lengths.now s.requires.0 in
     let w = rw (to_z-of_z {w = w32} (sfits_of c.offset-1.given)) at c.put_span-place.ensures in
-    item_laid _ _ _ _ _ _ _ l.invariant _ (span-step _ _ _ s.requires.0 h) (omega arith) s.requires.1 _ _ w
+    item_laid _ _ _ _ _ _ _ l.invariant _ (span-step _ _ _ s.requires.0 h) (omega arith) s.requires.1 _ _ (w.value, w.buffer_after)
 
 pub shape_of-buffer : goal.shape_of-buffer
 shape_of-buffer c = c.loop-i.invariant.size

@@ -12,4 +12,4 @@ returns c =
     let s = c in
     let v = rw (to_z-of_z {w = w64} (sfits_of c.wide.type_inv) ∙ c.wide.ensures ∙ to_z-of_z {w = w32} s.ranges.offset) at c.varint_len-first.ensures in
     let u = c.uvarint_len-second.ensures in
-    (omega (arith, v.0, u.value, length-span s.args.offset s.args.size), omega (arith, v.1, u.lower_bound))
+    (omega (arith, v.value, u.value, length-span s.args.offset s.args.size), omega (arith, v.lower_bound, u.lower_bound))

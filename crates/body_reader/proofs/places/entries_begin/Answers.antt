@@ -6,8 +6,7 @@ use Rattle.body_reader.proofs.places.entries_begin.Goals as goal
 
 pub returns-in-Rows : goal.returns-in-Rows
 returns-in-Rows c =
-    let told = c.enum_told-1.given in
-    rw (told.1, rows-rows told.0.0) c.rows_begin.ensures
+    rw (c.in-Rows.is, rows-rows c.in-Rows.labelled) c.rows_begin.ensures
 
 pub returns-in-Plain : goal.returns-in-Plain
 returns-in-Plain c = rw (c.in-Plain.is, plain-plain c.in-Plain.field-0)

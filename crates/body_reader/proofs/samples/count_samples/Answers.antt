@@ -2,42 +2,39 @@
 use borrow.Author.Rules.{rules}
 use native.Mathlib.Omega.{arith}
 use Prim.Native.Nat.{◌-◌}
-use mathlib.Core.Path.{subst}
-use lib.ListN.{length}
-use Rattle.body_format.specs.Entries.{samples}
+use Rattle.std.specs.Prelude.{◌≡◌, List, ℕ, ◌<◌, length}
+use Rattle.body_format.specs.Entries.{BodyType, samples, entry_at}
+use Rattle.body_fields.specs.declared.Place.{Place}
 use Rattle.body_fields.specs.declared.Place.TheVariants.{At}
+use Rattle.body_fields.specs.Ends.{end_of}
 use Rattle.body_reader.proofs.Reading.{Counting, counting, end-turn, count-done, EndTold}
 use Rattle.body_reader.proofs.samples.count_samples.Goals as goal
-use Rattle.body_reader.proofs.samples.count_samples.Goals.{After-sample_end, In-At-2}
 
-turn : (c : After-sample_end) →
-    let a = c.args in
-    let l = c.loop-at in
-    EndTold samples a.body.now a.first l.at l.count c.sample_end.result
-turn c = end-turn _ _ _ _ _ c.loop-at.invariant (omega arith) _ c.sample_end.ensures
-
--- one row more
-found : (c : In-At-2) →
-    let a = c.args in
-    let l = c.loop-at in
-    EndTold samples a.body.now a.first l.at l.count (At c.in-At.next)
-found c = subst (EndTold _ _ _ _ _) c.in-At.is (turn c)
+-- one more, or a fault in it
+turned : (k : BodyType) (s : List ℕ) (first at count : ℕ) → Counting k s first at count → at < length s
+    → (r p : Place) → r ≡ end_of (entry_at k s at) → r ≡ p → EndTold k s first at count p
+turned k s first at count i l r p e is = rw is at (end-turn k s first at count i l r e)
 
 pub loop-at-init : goal.loop-at-init
 loop-at-init c = counting _ _ _ c.requires.0 c.requires.1
 
 pub overflow_add-count : goal.overflow_add-count
 overflow_add-count c =
-    omega (arith, (found (goal.at.overflow_add-count c).In-At-2).1, (found (goal.at.overflow_add-count c).In-At-2).2, c.loop-at.invariant.few)
+    let t = turned samples c.args.body.now c.args.first c.loop-at.at c.loop-at.count c.loop-at.invariant (omega arith) _ (At c.in-At.next) c.sample_end.ensures c.in-At.is in
+    omega (arith, t.1, t.2, c.loop-at.invariant.few)
 
 pub loop-at-smaller : goal.loop-at-smaller
-loop-at-smaller c = omega (arith, (found (goal.at.loop-at-smaller c).In-At-2).1, (found (goal.at.loop-at-smaller c).In-At-2).2)
+loop-at-smaller c =
+    let t = turned samples c.args.body.now c.args.first c.loop-at.at c.loop-at.count c.loop-at.invariant (omega arith) _ (At c.in-At.next) c.sample_end.ensures c.in-At.is in
+    omega (arith, t.1, t.2)
 
 pub loop-at-preserved : goal.loop-at-preserved
-loop-at-preserved c = (found (goal.at.loop-at-preserved c).In-At-2).0
+loop-at-preserved c =
+    let t = turned samples c.args.body.now c.args.first c.loop-at.at c.loop-at.count c.loop-at.invariant (omega arith) _ (At c.in-At.next) c.sample_end.ensures c.in-At.is in
+    t.0
 
 pub returns-in-Fault : goal.returns-in-Fault
-returns-in-Fault c = subst (EndTold _ _ _ _ _) c.in-Fault.is (turn (goal.at.returns-in-Fault c).After-sample_end)
+returns-in-Fault c = turned samples c.args.body.now c.args.first c.loop-at.at c.loop-at.count c.loop-at.invariant (omega arith) _ _ c.sample_end.ensures c.in-Fault.is
 
 pub returns : goal.returns
 returns c = count-done _ _ _ _ _ c.loop-at.invariant (omega arith)
