@@ -27,10 +27,12 @@ empty (b ∷ s) h = absurd (omega arith)
 
 pub typed : (k : BodyType) (s : List ℕ) → 0 < length s → get_or s 0 0 ≡ type_byte k → samples_in s ≡ samples_known (known k) s
 unfolding samples_in
+typed k [] l h = elim l [ ]
 typed k (b ∷ s) l h = ap (λ n. samples_known n (b ∷ s)) (ap body_type_of h ∙ type_known k)
 
 pub checked : (s : List ℕ) → 0 < length s → get_or s 0 0 ≡ 2 → check_body s ≡ check_fields (samples_in s)
 unfolding check_body
+checked [] l h = elim l [ ]
 checked (b ∷ s) l h = rw (typed samples (b ∷ s) l h, h, type_known samples)
 
 pub untyped : (s : List ℕ) → 0 < length s
@@ -38,6 +40,7 @@ pub untyped : (s : List ℕ) → 0 < length s
     → (get_or s 0 0 ≡ 7 → ⊥) → (get_or s 0 0 ≡ 8 → ⊥)
     → samples_in s ≡ fault UnknownType
 unfolding samples_in
+untyped [] l n1 n2 n3 n4 n6 n7 n8 = elim l [ ]
 untyped (b ∷ s) l n1 n2 n3 n4 n6 n7 n8 = ap (λ n. samples_known n (b ∷ s)) (type_unknown b n1 n2 n3 n4 n6 n7 n8)
 
 -- ---- the plan

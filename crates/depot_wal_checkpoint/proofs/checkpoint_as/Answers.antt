@@ -8,8 +8,7 @@ use Rattle.depot_wal_checkpoint.proofs.checkpoint_as.Goals as goal
 pub returns-in-Known : goal.returns-in-Known
 returns-in-Known c =
     let a = c.args in
-    let told = c.found-1.given in
-    let e : version_of a.version ≡ Known told.0.0 = sym c.version_of-found.ensures ∙ told.1 in
+    let e : version_of a.version ≡ Known c.in-Known.known = sym c.version_of-found.ensures ∙ c.in-Known.is in
     rw e c.checkpoint.ensures
 
 pub returns-in-Unknown : goal.returns-in-Unknown

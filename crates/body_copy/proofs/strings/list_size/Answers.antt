@@ -20,5 +20,4 @@ returns-in-Bad c = (
   told-bad _ _ _ _ c.strings_size.ensures c.in-Bad.is,
   λ z. let one : ◌≡◌ {A = ℕ} 0 1 = cc in absurd (omega arith),
   omega arith,
-
 )

@@ -1,31 +1,22 @@
 -- `put_string` meets its contract: the length, and then the bytes.
 use borrow.Author.Rules.{rules}
 use native.Mathlib.Omega.{arith}
-use Prim.Native.Nat.{ℕ, ◌+◌, ◌≤◌}
-use mathlib.Core.Path.{◌≡◌, ap, ◌∙◌}
+use Prim.Native.Nat.{◌+◌, ◌≤◌}
+use mathlib.Core.Path.{ap, ◌∙◌}
 use lib.ListN.{length}
 use lib.Seq.{length-sets}
 use Rattle.byte_copy.specs.CopiedLaws.{copied-fits}
 use Rattle.body_fields.specs.Laws.{string-told, string_faulty}
-use Rattle.body_format.specs.Fields.{got, StringField, string_at}
 use Rattle.body_copy.proofs.Copying.{text_inside, text-room, text-laid, text-none}
 use Rattle.body_copy.proofs.strings.put_string.Goals as goal
-use Rattle.body_copy.proofs.strings.put_string.Goals.{After-put_uvarint-first, In-Got-2}
-
--- the string that was read
-abbrev Read : tie.Start → ℕ → ℕ → ℕ → Type 0
-Read s start n q = (t : StringField) × (string_at s.args.from.now s.args.at ≡ got t q) × (t.start ≡ start) × (length t.bytes ≡ n)
-
-read : (c : In-Got-2) →
-    Read c c.in-Got.start c.in-Got.length c.in-Got.next
-read c = string-told _ _ c.string_field_at.ensures c.in-Got.is
+use Rattle.body_copy.proofs.strings.put_string.Goals.{After-put_uvarint-first}
 
 -- its text fits behind its length
 fits : (c : After-put_uvarint-first) →
     c.put_uvarint-first.result + c.in-Got.length ≤ length c.put_uvarint-first.new.buf
 fits c =
     let s = c in
-    let t = read c in
+    let t = string-told _ _ c.string_field_at.ensures c.in-Got.is in
     let w = c.put_uvarint-first.ensures in
     text-room _ _ _ _ _ t.0 t.1 t.2 t.3 s.args.buffer.now s.args.place s.requires _ _ w.value w.buf_after
 
@@ -35,7 +26,7 @@ overflow_add-end c = omega (arith, fits (goal.at.overflow_add-end c).After-put_u
 pub returns-in-Got : goal.returns-in-Got
 returns-in-Got c =
     let s = c in
-    let t = read (goal.at.returns-in-Got c).In-Got-2 in
+    let t = string-told _ _ c.string_field_at.ensures c.in-Got.is in
     let w = c.put_uvarint-first.ensures in
     let inside = text_inside _ _ _ _ _ t.0 t.1 t.2 t.3 s.args.buffer.now s.args.place s.requires _ _ w.value w.buf_after in
     text-laid _ _ _ _ _ t.0 t.1 t.2 t.3 s.args.buffer.now s.args.place s.requires _ _ w.value w.buf_after _

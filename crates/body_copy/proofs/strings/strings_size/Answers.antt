@@ -2,36 +2,34 @@
 -- strings that are left make the whole.
 use borrow.Author.Rules.{rules}
 use native.Mathlib.Omega.{arith}
-use mathlib.Core.Path.{◌≡◌, refl, subst}
+use Rattle.std.specs.Prelude.{◌≡◌, refl, List, ℕ, ◌<◌}
+use Rattle.body_format.specs.Fields.{string_at}
+use Rattle.body_copy.specs.declared.strings.Measured.{Measured}
 use Rattle.body_copy.specs.declared.strings.Measured.TheVariants as measured
+use Rattle.body_copy.specs.Forms.{measured_of}
 use Rattle.body_copy.proofs.Measuring.{Sizing, SizeTold, size-turn, size-done}
 use Rattle.body_copy.proofs.strings.strings_size.Goals as goal
-use Rattle.body_copy.proofs.strings.strings_size.Goals.{After-string_size, In-Got-2}
 
 pub loop-left-init : goal.loop-left-init
 loop-left-init c = record { few = omega arith; behind = omega arith; same = refl }
 
-turn : (c : After-string_size) →
-    let a = c.args in
-    let l = c.loop-left in
-    SizeTold a.from.now a.first a.count l.at l.total l.left c.string_size.result
-turn c = size-turn _ _ _ _ _ _ c.loop-left.invariant c.loop-left-test.true _ c.string_size.ensures
-
--- a string more
-found : (c : In-Got-2) →
-    let a = c.args in
-    let l = c.loop-left in
-    SizeTold a.from.now a.first a.count l.at l.total l.left (measured.Got c.in-Got.size c.in-Got.next)
-found c = subst (SizeTold _ _ _ _ _ _) c.in-Got.is (turn c)
+-- a string more, or one that cannot be read
+turned : (s : List ℕ) (first count at total left : ℕ) → Sizing s first count at total left → 0 < left
+    → (r m : Measured) → r ≡ measured_of (string_at s at) → r ≡ m → SizeTold s first count at total left m
+turned s first count at total left i h r m e is = rw is at (size-turn s first count at total left i h r e)
 
 pub overflow_add-total : goal.overflow_add-total
-overflow_add-total c = omega (arith, (found (goal.at.overflow_add-total c).In-Got-2).1)
+overflow_add-total c =
+    let t = turned c.args.from.now c.args.first c.args.count c.loop-left.at c.loop-left.total c.loop-left.left c.loop-left.invariant c.loop-left-test.true _ (measured.Got c.in-Got.size c.in-Got.next) c.string_size.ensures c.in-Got.is in
+    omega (arith, t.1)
 
 pub returns-in-Bad : goal.returns-in-Bad
-returns-in-Bad c = subst (SizeTold _ _ _ _ _ _) c.in-Bad.is (turn (goal.at.returns-in-Bad c).After-string_size)
+returns-in-Bad c = turned c.args.from.now c.args.first c.args.count c.loop-left.at c.loop-left.total c.loop-left.left c.loop-left.invariant c.loop-left-test.true _ _ c.string_size.ensures c.in-Bad.is
 
 pub loop-left-preserved : goal.loop-left-preserved
-loop-left-preserved c = (found (goal.at.loop-left-preserved c).In-Got-2).0
+loop-left-preserved c =
+    let t = turned c.args.from.now c.args.first c.args.count c.loop-left.at c.loop-left.total c.loop-left.left c.loop-left.invariant c.loop-left-test.true _ (measured.Got c.in-Got.size c.in-Got.next) c.string_size.ensures c.in-Got.is in
+    t.0
 
 pub returns : goal.returns
 returns c =
