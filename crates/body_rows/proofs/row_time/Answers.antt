@@ -1,5 +1,5 @@
 -- `row_time` meets its contract: the first time, or a delta added to it.
-use borrow.Author.Rules.{rules, sfits_of}
+use borrow.Author.Rules.{rules}
 use native.Mathlib.Omega.{arith}
 use Prim.Native.Nat.{ℕ, ◌+◌, ◌%◌, ◌^◌, ◌<◌}
 use mathlib.Core.Path.{◌≡◌, sym, ap, ◌∙◌}
@@ -7,6 +7,7 @@ use lib.IntN.{ℤ}
 use lib.Signed.{mag}
 use mir.Facts.{to_z-of_z}
 use mir.Syntax.{w64}
+use mir.Val.{SFits}
 use Rattle.varint.specs.Varint.{unzigzag}
 use Rattle.wal_types.specs.Deltas.{plus, to_bits, int_from_bits}
 use Rattle.wal_types.specs.DeltaLaws.{from_to, to_lt}
@@ -22,8 +23,8 @@ same z u h e = rw e (sym (ap int_from_bits (rest z h) ∙ from_to z h))
 
 pub returns-then-zigzag-eq0 : goal.returns-then-zigzag-eq0
 returns-then-zigzag-eq0 c =
-    let fits = c.struct_told-1.given.0.1 in
-    to_z-of_z {w = w64} (sfits_of fits) ∙ same _ _ fits c.if-zigzag-eq0.true
+    let fits : SFits w64 c.args.first.0 = search rules in
+    to_z-of_z {w = w64} fits ∙ same _ _ fits.sfits c.if-zigzag-eq0.true
 
 pub returns : goal.returns
 returns c = c.time_plus.ensures ∙ ap (λ (d : ℕ). int_from_bits (plus (to_bits c.args.first.0) d)) c.delta_of_zigzag.ensures

@@ -34,6 +34,5 @@ returns-in-8 c = sym (ap check_fields (typed (histograms Float) c.args.body.now 
 
 pub returns-in_default : goal.returns-in_default
 returns-in_default c =
-    let r = c.in_default.in_default-own.rest in
     sym (ap check_fields (untyped c.args.body.now (omega arith)
-    r.0.0.0.0.0.1 r.0.0.0.0.0.0.1 r.0.0.0.0.1 r.0.0.0.1 r.0.0.1 r.0.1 r.1))
+    (omega arith) (omega arith) (omega arith) (omega arith) (omega arith) (omega arith) (omega arith)))

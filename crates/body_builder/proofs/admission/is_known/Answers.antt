@@ -1,4 +1,5 @@
 -- `is_known` meets its contract, by the byte.
+use native.Mathlib.Omega.{arith}
 use mathlib.Core.Path.{sym, ap}
 use Rattle.body_format.specs.Entries.{body_type_of}
 use Rattle.body_format.specs.Laws.Types.{type_unknown}
@@ -35,5 +36,4 @@ returns-in-8 c = rw c.in-8.is
 
 pub returns-in_default : goal.returns-in_default
 returns-in_default c =
-    let r = c.in_default.in_default-own.rest in
-    sym (ap is_known (type_unknown c.args.tag r.0.0.0.0.0.0.1 r.0.0.0.0.0.1 r.0.0.0.0.1 r.0.0.0.1 r.0.0.1 r.0.1 r.1))
+    sym (ap is_known (type_unknown c.args.tag (omega arith) (omega arith) (omega arith) (omega arith) (omega arith) (omega arith) (omega arith)))

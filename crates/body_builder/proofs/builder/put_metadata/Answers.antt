@@ -11,15 +11,6 @@ use Rattle.body_format.specs.Building.{entry_bytes, string_list_bytes, cut_strin
 use Rattle.body_builder.specs.Laws.Putting.{Put}
 use Rattle.body_builder.proofs.Laying.{byte_room, byte_then, byte_laid}
 use Rattle.body_builder.proofs.builder.put_metadata.Goals as goal
-use Rattle.body_builder.proofs.builder.put_metadata.Goals.{After-slice_known-3-1}
-
-whole : (c : After-slice_known-3-1) →
-    let a = c.args in
-    Put a.buffer.now a.at (entry_bytes a.buffer.now a.at (metadata_entry a.id.0 a.metric (cut_strings a.strings.now a.lengths.now))) c.put_list.new.buffer c.put_list.result
-unfolding entry_bytes
-whole c =
-    let w = c.put_uvarint-second.ensures in
-    byte_laid _ _ _ _ c.args.id.0 c.args.metric ((string_list_bytes (cut_strings c.args.strings.now c.args.lengths.now))) c.requires.1 w.value w.buf_after _ _ (c.put_list.ensures.value, c.put_list.ensures.buffer_after)
 
 pub bounds-buffer-second : goal.bounds-buffer-second
 unfolding entry_bytes
@@ -40,7 +31,15 @@ put_list-requires c =
     (c.requires.0, byte_then _ _ _ _ c.args.id.0 c.args.metric ((string_list_bytes (cut_strings c.args.strings.now c.args.lengths.now))) c.requires.1 w.value w.buf_after)
 
 pub shape_of-buffer : goal.shape_of-buffer
-shape_of-buffer c = ap length (whole (goal.at.shape_of-buffer c).After-slice_known-3-1).1 ∙ simp length-sets
+unfolding entry_bytes
+shape_of-buffer c =
+    let w = c.put_uvarint-second.ensures in
+    let both = byte_laid _ _ _ _ c.args.id.0 c.args.metric ((string_list_bytes (cut_strings c.args.strings.now c.args.lengths.now))) c.requires.1 w.value w.buf_after _ _ (c.put_list.ensures.value, c.put_list.ensures.buffer_after) in
+    ap length both.1 ∙ simp length-sets
 
 pub returns : goal.returns
-returns c = let both = whole (goal.at.returns c).After-slice_known-3-1 in record { value = both.0; buffer_after = both.1 }
+unfolding entry_bytes
+returns c =
+    let w = c.put_uvarint-second.ensures in
+    let both = byte_laid _ _ _ _ c.args.id.0 c.args.metric ((string_list_bytes (cut_strings c.args.strings.now c.args.lengths.now))) c.requires.1 w.value w.buf_after _ _ (c.put_list.ensures.value, c.put_list.ensures.buffer_after) in
+    record { value = both.0; buffer_after = both.1 }

@@ -10,19 +10,13 @@ use Rattle.body_builder.specs.Sizes.{deltas_in, zigzags_of}
 use Rattle.body_builder_histogram.specs.Front.{front_bytes}
 use Rattle.body_builder_histogram.proofs.Parts.{front-head-room, front-numbers-room, front-laid}
 use Rattle.body_builder_histogram.proofs.front.put_front.Goals as goal
-use Rattle.body_builder_histogram.proofs.front.put_front.Goals.{After-put_head-arg-1, After-zigzags-row}
+use Rattle.body_builder_histogram.proofs.front.put_front.Goals.{After-zigzags-row}
 
 -- the zigzags of the row's deltas
 zigzagged : (c : After-zigzags-row) →
     let a = c.args in
     c.zigzags-row.result ≡ zigzags_of (deltas_in a.buffer.now a.at a.id.0 (to_bits a.time.0))
 zigzagged c = c.zigzags-row.ensures ∙ ap zigzags_of c.deltas_of.ensures
-
--- there is room
-fits : (c : After-put_head-arg-1) →
-    let a = c.args in
-    a.at + length (front_bytes a.buffer.now a.at a.kind a.id.0 (to_bits a.time.0) a.numbers) ≤ length a.buffer.now
-fits c = omega (arith, c.front_len-size.ensures.0)
 
 pub returns-then-buffer-at : goal.returns-then-buffer-at
 returns-then-buffer-at c =
@@ -37,13 +31,17 @@ returns-then-buffer-at-2 c =
 pub put_head-second-requires : goal.put_head-second-requires
 put_head-second-requires c =
     let a = c.args in
-    (zigzagged (goal.at.put_head-second-requires c).After-zigzags-row, front-head-room a.buffer.now a.at a.kind a.id.0 (to_bits a.time.0) a.numbers (fits (goal.at.put_head-second-requires c).After-put_head-arg-1))
+    let fits : a.at + length (front_bytes a.buffer.now a.at a.kind a.id.0 (to_bits a.time.0) a.numbers) ≤ length a.buffer.now = omega (arith, c.front_len-size.ensures.0) in
+    (zigzagged (goal.at.put_head-second-requires c).After-zigzags-row, front-head-room a.buffer.now a.at a.kind a.id.0 (to_bits a.time.0) a.numbers fits)
 
 pub put_numbers-requires : goal.put_numbers-requires
 put_numbers-requires c =
     let a = c.args in
-    front-numbers-room a.buffer.now a.at a.kind a.id.0 (to_bits a.time.0) a.numbers (fits (goal.at.put_numbers-requires c).After-put_head-arg-1) _ _ (c.put_head-second.ensures.value, c.put_head-second.ensures.buffer_after)
+    let fits : a.at + length (front_bytes a.buffer.now a.at a.kind a.id.0 (to_bits a.time.0) a.numbers) ≤ length a.buffer.now = omega (arith, c.front_len-size.ensures.0) in
+    front-numbers-room a.buffer.now a.at a.kind a.id.0 (to_bits a.time.0) a.numbers fits _ _ (c.put_head-second.ensures.value, c.put_head-second.ensures.buffer_after)
 
 pub returns : goal.returns
 returns c =
-    let a = c.args in let both = front-laid a.buffer.now a.at a.kind a.id.0 (to_bits a.time.0) a.numbers (fits (goal.at.returns c).After-put_head-arg-1) _ _ (c.put_head-second.ensures.value, c.put_head-second.ensures.buffer_after) _ _ (c.put_numbers.ensures.value, c.put_numbers.ensures.buffer_after) in record { value = both.0; buffer_after = both.1 }
+    let a = c.args in
+    let fits : a.at + length (front_bytes a.buffer.now a.at a.kind a.id.0 (to_bits a.time.0) a.numbers) ≤ length a.buffer.now = omega (arith, c.front_len-size.ensures.0) in
+    let both = front-laid a.buffer.now a.at a.kind a.id.0 (to_bits a.time.0) a.numbers fits _ _ (c.put_head-second.ensures.value, c.put_head-second.ensures.buffer_after) _ _ (c.put_numbers.ensures.value, c.put_numbers.ensures.buffer_after) in record { value = both.0; buffer_after = both.1 }

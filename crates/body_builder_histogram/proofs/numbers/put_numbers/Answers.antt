@@ -11,22 +11,6 @@ use Rattle.body_format.specs.Histograms.{numbers_bytes}
 use Rattle.body_builder.specs.Laws.Putting.{Put}
 use Rattle.body_builder_histogram.proofs.Fields.{hint-room, numbers-laid}
 use Rattle.body_builder_histogram.proofs.numbers.put_numbers.Goals as goal
-use Rattle.body_builder_histogram.proofs.numbers.put_numbers.Goals.{After-slice_known-6-1}
-
--- all six fields
-laid : (c : After-slice_known-6-1) →
-    let a = c.args in
-    Put a.buffer.now a.at (numbers_bytes a.kind a.numbers) c.put_be8.new.buf c.put_be8.result
-laid c =
-    let s = c in
-    let fits : SFits w32 c.args.numbers.schema = search rules in
-    let x = to_z-of_z {w = w64} (sfits_of c.wide.type_inv) ∙ c.wide.ensures ∙ to_z-of_z {w = w32} {z = c.args.numbers.schema} fits in
-    let v = rw x at c.put_varint-threshold.ensures in
-    let w = c.put_be8-zeros.ensures in
-    let z = c.put_count-count.ensures in
-    let n = c.put_count-sum.ensures in
-    let t = c.put_be8.ensures in
-    numbers-laid _ _ _ _ s.requires _ _ _ _ _ _ _ _ _ _ v.value v.buf_after w.value w.buf_after z.value z.buffer_after n.value n.buffer_after t.value t.buf_after
 
 pub bounds-buffer-at : goal.bounds-buffer-at
 bounds-buffer-at c = hint-room _ _ c.args.buffer.now _ c.requires
@@ -36,8 +20,27 @@ overflow_add-schema c = omega (arith, hint-room _ _ c.args.buffer.now _ c.requir
 
 pub shape_of-buffer : goal.shape_of-buffer
 shape_of-buffer c =
-    let a = c.args in
-    ap length (laid (goal.at.shape_of-buffer c).After-slice_known-6-1).1 ∙ length-sets a.buffer.now a.at (numbers_bytes a.kind a.numbers)
+    let s = c in
+    let fits : SFits w32 c.args.numbers.schema = search rules in
+    let x = to_z-of_z {w = w64} (sfits_of c.wide.type_inv) ∙ c.wide.ensures ∙ to_z-of_z {w = w32} {z = c.args.numbers.schema} fits in
+    let v = rw x at c.put_varint-threshold.ensures in
+    let w = c.put_be8-zeros.ensures in
+    let z = c.put_count-count.ensures in
+    let n = c.put_count-sum.ensures in
+    let t = c.put_be8.ensures in
+    let both = numbers-laid _ _ _ _ s.requires _ _ _ _ _ _ _ _ _ _ v.value v.buf_after w.value w.buf_after z.value z.buffer_after n.value n.buffer_after t.value t.buf_after in
+    ap length both.1 ∙ length-sets s.args.buffer.now s.args.at (numbers_bytes s.args.kind s.args.numbers)
 
+-- all six fields
 pub returns : goal.returns
-returns c = let both = laid (goal.at.returns c).After-slice_known-6-1 in record { value = both.0; buffer_after = both.1 }
+returns c =
+    let s = c in
+    let fits : SFits w32 c.args.numbers.schema = search rules in
+    let x = to_z-of_z {w = w64} (sfits_of c.wide.type_inv) ∙ c.wide.ensures ∙ to_z-of_z {w = w32} {z = c.args.numbers.schema} fits in
+    let v = rw x at c.put_varint-threshold.ensures in
+    let w = c.put_be8-zeros.ensures in
+    let z = c.put_count-count.ensures in
+    let n = c.put_count-sum.ensures in
+    let t = c.put_be8.ensures in
+    let both = numbers-laid _ _ _ _ s.requires _ _ _ _ _ _ _ _ _ _ v.value v.buf_after w.value w.buf_after z.value z.buffer_after n.value n.buffer_after t.value t.buf_after in
+    record { value = both.0; buffer_after = both.1 }

@@ -1,10 +1,12 @@
 -- `put_spans` meets its contract; the loop's invariant as for buckets.
-use borrow.Author.Rules.{rules, sfits_of}
+use borrow.Author.Rules.{rules}
 use native.Mathlib.Omega.{arith}
 use Prim.Native.Nat.{◌-◌}
-use lib.ListN.{length}
+use lib.IntN.{pos}
+use lib.ListN.{length, get_or}
 use mir.Facts.{to_z-of_z}
 use mir.Syntax.{w32}
+use mir.Val.{SFits}
 use Rattle.body_format.specs.declared.Element.TheVariants as element
 use Rattle.body_format.specs.Histograms.{join_spans}
 use Rattle.body_builder_histogram.proofs.Laying.{Laying, laying, laid, item_room, item_laid, length-spans, span-step}
@@ -19,7 +21,8 @@ put_span-place-requires c =
     let s = c in
     let h = c.loop-i-test.true in
     let few = length-spans s.args.offsets.now s.args.lengths.now s.requires.0 in
-    rw (to_z-of_z {w = w32} (sfits_of c.offset-1.given)) (item_room _ _ _ _ _ _ _ l.invariant _ (span-step _ _ _ s.requires.0 h) (omega arith) s.requires.1)
+    let fits : SFits w32 (get_or c.args.offsets.now c.loop-i.i (pos 0)) = search rules in
+    rw (to_z-of_z {w = w32} fits) (item_room _ _ _ _ _ _ _ l.invariant _ (span-step _ _ _ s.requires.0 h) (omega arith) s.requires.1)
 
 pub loop-i-preserved : goal.loop-i-preserved
 loop-i-preserved c =
@@ -27,7 +30,8 @@ loop-i-preserved c =
     let s = c in
     let h = c.loop-i-test.true in
     let few = length-spans s.args.offsets.now s.args.lengths.now s.requires.0 in
-    let w = rw (to_z-of_z {w = w32} (sfits_of c.offset-1.given)) at c.put_span-place.ensures in
+    let fits : SFits w32 (get_or c.args.offsets.now c.loop-i.i (pos 0)) = search rules in
+    let w = rw (to_z-of_z {w = w32} fits) at c.put_span-place.ensures in
     item_laid _ _ _ _ _ _ _ l.invariant _ (span-step _ _ _ s.requires.0 h) (omega arith) s.requires.1 _ _ (w.value, w.buffer_after)
 
 pub shape_of-buffer : goal.shape_of-buffer

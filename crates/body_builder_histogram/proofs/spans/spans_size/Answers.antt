@@ -1,10 +1,12 @@
 -- `spans_size` meets its contract; the loop's invariant as for buckets.
-use borrow.Author.Rules.{rules, sfits_of}
+use borrow.Author.Rules.{rules}
 use native.Mathlib.Omega.{arith}
 use Prim.Native.Nat.{◌-◌}
-use lib.ListN.{length}
+use lib.IntN.{pos}
+use lib.ListN.{length, get_or}
 use mir.Facts.{to_z-of_z}
 use mir.Syntax.{w32}
+use mir.Val.{SFits}
 use Rattle.body_format.specs.declared.Element.TheVariants as element
 use Rattle.body_format.specs.Histograms.{join_spans}
 use Rattle.body_builder_histogram.proofs.Laying.{Sizing, sizing, sized_more, sized-all, length-spans, span-step}
@@ -21,7 +23,8 @@ loop-i-preserved c =
     let l = c.loop-i in
     let s = c in
     let few = length-spans s.args.offsets.now s.args.lengths.now s.requires.0 in
-    let u = rw (to_z-of_z {w = w32} (sfits_of c.span_size-arg-1.given)) at c.span_size-size.ensures in
+    let fits : SFits w32 (get_or c.args.offsets.now c.loop-i.i (pos 0)) = search rules in
+    let u = rw (to_z-of_z {w = w32} fits) at c.span_size-size.ensures in
     sized_more _ _ _ _ _ l.invariant _ (span-step _ _ _ s.requires.0 c.loop-i-test.true) (omega arith) _ u.0 u.1
 
 pub returns : goal.returns

@@ -28,7 +28,6 @@ returns-in-8 c = rw c.in-8.is
 
 pub returns-in_default : goal.returns-in_default
 returns-in_default c =
-    let r = c.in_default.in_default-own.rest in
     let h = c.requires in
     sym (ap type_found (type_unknown c.args.tag (λ e. omega arith) (λ e. omega arith)
-    r.0.0.0.0.1 r.0.0.0.1 r.0.0.1 r.0.1 r.1))
+    (omega arith) (omega arith) (omega arith) (omega arith) (omega arith)))
