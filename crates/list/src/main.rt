@@ -1,6 +1,8 @@
 // Lists a segment from standard input (FORMAT 15).
 #![tactic(auto)]
 
-fn main() {
-    listing::list_input();
+use std::io;
+
+fn main(rt: HostRuntime) -> io::Result<()> {
+    listing::list_input(&rt)
 }

@@ -1,66 +1,75 @@
-// Words of an output line, on standard output. No contract can say what is written: each says that
-// nothing is handed back and nothing of the caller's changes. What they print is tested through the
-// programs that call them.
+// Words of an output line, for any writer. Each call appends its bytes to what the writer holds, where
+// that is known, unless a write fails.
 #![tactic(auto)]
 
-ghost use Rattle.std.specs.Prelude.{◌≡◌};
+ghost use Rattle.std.specs.Prelude.{◌≡◌, ◌+◌, ◌/◌, ◌%◌, ◌++◌, ◌∷◌, [], OnOk, codes, decimal, take};
+ghost use Rattle.std.specs.Io.KnownBytes.{Appends};
+ghost use Rattle.print.specs.Pairs.{hex_pair, hex_pairs};
 
-use numbers::wide64;
+use numbers::smaller;
+use std::io;
+use std::io::Write;
 
-pub fn text(bytes: &[u8])
-    ensures { bytes.now ≡ bytes.now }
+pub fn text<W: Write>(out: &mut W, bytes: &[u8]) -> io::Result<()>
+    ensures { OnOk result (Appends (W.contents out.old) (W.contents out.new) bytes.now) }
 {
-    io::write_all(1, bytes);
+    out.write_all(bytes)
 }
 
-pub fn space()
-    ensures { result ≡ tt }
+pub fn space<W: Write>(out: &mut W) -> io::Result<()>
+    ensures { OnOk result (Appends (W.contents out.old) (W.contents out.new) (codes " ")) }
 {
-    text(b" ");
+    text(out, b" ")
 }
 
-pub fn end_line()
-    ensures { result ≡ tt }
+pub fn end_line<W: Write>(out: &mut W) -> io::Result<()>
+    ensures { OnOk result (Appends (W.contents out.old) (W.contents out.new) (10 ∷ [])) }
 {
-    text(b"\n");
+    text(out, b"\n")
 }
 
-pub fn number(n: u64)
-    ensures { result ≡ tt }
+pub fn number<W: Write>(out: &mut W, n: u64) -> io::Result<()>
+    ensures { OnOk result (Appends (W.contents out.old) (W.contents out.new) (decimal n)) }
 {
-    io::print_decimal(1, n);
+    write!(out, "{n}")
 }
 
 // A space and a number, as most lines have them.
-pub fn field(n: u64)
-    ensures { result ≡ tt }
+pub fn field<W: Write>(out: &mut W, n: u64) -> io::Result<()>
+    ensures { OnOk result (Appends (W.contents out.old) (W.contents out.new) (codes " " ++ decimal n)) }
 {
-    space();
-    number(n);
+    space(out)?;
+    number(out, n)
 }
 
 // A signed number, given by its zigzag z: z / 2, or -(z / 2 + 1) where z is odd.
-pub fn signed(zigzag: u64)
-    ensures { result ≡ tt }
+pub fn signed<W: Write>(out: &mut W, zigzag: u64) -> io::Result<()>
+    ensures even { zigzag % 2 ≡ 0 → OnOk result (Appends (W.contents out.old) (W.contents out.new) (decimal (zigzag / 2))) }
+    ensures odd { zigzag % 2 ≡ 1 → OnOk result (Appends (W.contents out.old) (W.contents out.new) (codes "-" ++ decimal (zigzag / 2 + 1))) }
 {
     let magnitude = zigzag / 2;
     if zigzag % 2 == 0 {
-        number(magnitude);
+        number(out, magnitude)
     } else {
-        text(b"-");
-        number(magnitude + 1);
+        text(out, b"-")?;
+        number(out, magnitude + 1)
     }
 }
 
-// The first n bytes of a slice, two hexadecimal digits each.
-pub fn bytes(s: &[u8], n: usize)
-    ensures { s.now ≡ s.now }
+// A byte, as two hexadecimal digits in lower case.
+pub fn byte<W: Write>(out: &mut W, byte: u8) -> io::Result<()>
+    ensures { OnOk result (Appends (W.contents out.old) (W.contents out.new) (hex_pair byte)) }
 {
-    let mut i = 0;
-    while i < s.len() {
-        if i < n {
-            io::print_hex(1, wide64(s[i]), 2);
-        }
-        i += 1;
+    write!(out, "{byte:02x}")
+}
+
+// The first n bytes of a slice, two hexadecimal digits each.
+pub fn bytes<W: Write>(out: &mut W, s: &[u8], n: usize) -> io::Result<()>
+    ensures { OnOk result (Appends (W.contents out.old) (W.contents out.new) (hex_pairs (take n s.now))) }
+{
+    let count = smaller(n, s.len());
+    for b in &s[..count] {
+        byte(out, *b)?;
     }
+    Ok(())
 }

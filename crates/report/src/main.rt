@@ -1,6 +1,8 @@
 // Reports on the segments that its arguments name (FORMAT 22.10).
 #![tactic(auto)]
 
-fn main() {
-    reporting::report();
+use std::io;
+
+fn main(rt: HostRuntime) -> io::Result<()> {
+    reporting::report(&rt)
 }

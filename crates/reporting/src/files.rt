@@ -4,8 +4,12 @@ ghost use Rattle.std.specs.Prelude.{◌≡◌};
 ghost use Rattle.report_format.specs.Paging.{beginner};
 ghost use Rattle.reporting.specs.Choices.{unadded, judged, Settled};
 
+use full_read::read_full;
 use log_report::pages::{begin, take_page};
 use report_format::Reported;
+use std::io::Read;
+use std::rt::Files;
+use std::{fs, str};
 use wal_types::{PAGE, SEGMENT_LIMIT, Version};
 
 // The numbers of BadBuffer and of BadName (FORMAT 12.1).
@@ -64,23 +68,12 @@ fn settle(taken: Taken, before: &[u64; 1284], report: &mut [u64; 1284]) -> Repor
     }
 }
 
-fn is_open(fd: i32) -> bool {
-    0 <= fd
-}
-
-// Whether the reading of a file that gave no more bytes has failed. At the end one more read gives 0;
-// it is below 0 where the reading fails, and 1 where it failed for once: bytes were left then.
-fn has_failed(fd: i32) -> bool {
-    let mut next = [0u8; 1];
-    libc::read(fd, &mut next) != 0
-}
-
 // Adds a file's records, page by page, up to a page that is shorter than the others. A page of a
 // segment that is over changes nothing, but the file is read on: it may be too long.
-fn add_pages(
+fn add_pages<F: Read>(
     table: &[u32; 2048],
     version: Version,
-    fd: i32,
+    file: &mut F,
     page: &mut [u8],
     buffer: &mut [u8; 65536],
     report: &mut [u64; 1284],
@@ -88,11 +81,11 @@ fn add_pages(
     let mut state = begin(report);
     let mut total: usize = 0;
     while total <= SEGMENT_LIMIT {
-        let got = io::read_full(fd, page);
+        let (got, ended) = read_full(file, page);
         state = take_page(version, table, state, &page[..got], buffer, report);
         if got < PAGE {
             let sum = total + got;
-            let failed = has_failed(fd);
+            let failed = ended.is_err();
             return judge(sum, failed, state.number, state.place);
         }
         total += PAGE;
@@ -100,8 +93,15 @@ fn add_pages(
     Taken::Nothing(TOO_LONG)
 }
 
+// Opens the file at a path, if that can be opened. Paths are text here, so one that is none cannot.
+fn open<R: Files>(rt: &R, path: &[u8]) -> Option<R::File> {
+    let text = str::from_utf8(path).ok()?;
+    fs::open(rt, text).ok()
+}
+
 // Adds the segment in a file.
-pub(crate) fn add_file(
+pub(crate) fn add_file<R: Files>(
+    rt: &R,
     table: &[u32; 2048],
     version: Version,
     path: &[u8],
@@ -109,12 +109,10 @@ pub(crate) fn add_file(
     buffer: &mut [u8; 65536],
     report: &mut [u64; 1284],
 ) -> Reported {
-    let fd = os::open_read(path);
-    if !is_open(fd) {
+    let Some(mut file) = open(rt, path) else {
         return refuse(UNREAD, report);
-    }
+    };
     let before = *report;
-    let taken = add_pages(table, version, fd, page, buffer, report);
-    libc::close(fd);
+    let taken = add_pages(table, version, &mut file, page, buffer, report);
     settle(taken, &before, report)
 }

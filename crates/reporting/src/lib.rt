@@ -1,5 +1,5 @@
 // The report program (FORMAT 22.10): the segments that its arguments name, and the report over them on
-// standard output. No contract can say what is read and written; the comparison with the second
+// standard output. No contract says what is read and written; the comparison with the second
 // program tests it. What is added, and every answer, are those of `log_report`.
 #![tactic(auto)]
 
@@ -7,12 +7,16 @@ mod files;
 mod lines;
 mod names;
 
-ghost use Rattle.std.specs.Prelude.{◌≡◌};
+ghost use Rattle.std.specs.Prelude.{◌≡◌, IfOk};
 ghost use Rattle.reporting.specs.Choices.{going_on, all_taken};
 
 use files::{UNREAD, add_file, refuse};
 use names::version_in;
 use report_format::{NIGHT_LIMIT, Reported};
+use std::env::FillError;
+use std::io;
+use std::io::{BufWriter, Write};
+use std::rt::{Env, Files};
 use wal_types::VersionFound;
 
 // Whether the report has not ended.
@@ -31,48 +35,61 @@ fn has_all(report: &[u64; 1284]) -> bool
 
 // Reports on the segments that the arguments name, in order; after an ended report nothing more is
 // read. The checksum's table is made once, for all of them.
-pub fn report()
-    ensures { result ≡ tt }
+pub fn report<R: Env + Files + Print + Alloc>(rt: &R) -> io::Result<()>
+    ensures { IfOk result (λ x. x ≡ tt) }
 {
     let mut table = [0u32; 2048];
     crc32c_table::fill_table(&mut table);
     let mut report = [0u64; 1284];
     let mut page = [0u8; 32768];
     let mut buffer = [0u8; 65536];
-    let count = os::arg_count();
-    let mut position: usize = 1;
-    while position < count {
-        if goes_on(&report) {
-            let answer = add_argument(&table, position, &mut page, &mut buffer, &mut report);
-            lines::segment(position, answer);
+    let mut out = BufWriter::new(rt.alloc(), io::writer(rt))?;
+    for position in 1..usize::MAX {
+        if !goes_on(&report) {
+            break;
         }
-        position += 1;
+        let Some(answer) = add_argument(rt, &table, position, &mut page, &mut buffer, &mut report)
+        else {
+            break;
+        };
+        lines::segment(&mut out, position, answer)?;
     }
-    lines::all_series(&report);
+    lines::all_series(&mut out, &report)?;
+    out.flush()
 }
 
-// Adds the segment that an argument names. The 1,025th is not looked at. An argument that is too long
-// to be opened is misnamed.
-fn add_argument(
+// Adds the segment that an argument names, if there is such an argument. The 1,025th is not looked
+// at. An argument that is too long to be opened is misnamed.
+fn add_argument<R: Env + Files>(
+    rt: &R,
     table: &[u32; 2048],
     position: usize,
     page: &mut [u8; 32768],
     buffer: &mut [u8; 65536],
     report: &mut [u64; 1284],
-) -> Reported {
+) -> Option<Reported> {
+    let mut path = [0u8; 4096];
+    let argument = rt.arg(position, &mut path);
+    if let Err(FillError::NotPresent) = argument {
+        return None;
+    }
     if has_all(report) {
-        return refuse(UNREAD, report);
+        return Some(refuse(UNREAD, report));
     }
-    let mut path = io::buffer();
-    let length = os::arg(position, &mut path);
-    if os::errno() != 0 {
-        return refuse(UNREAD, report);
-    }
+    let Ok(length) = argument else {
+        return Some(refuse(UNREAD, report));
+    };
     let version = version_in(&path[..length]);
     match version {
-        VersionFound::Known(known) => {
-            add_file(table, known, &path[..length], page, buffer, report)
-        }
-        VersionFound::Unknown => refuse(UNREAD, report),
+        VersionFound::Known(known) => Some(add_file(
+            rt,
+            table,
+            known,
+            &path[..length],
+            page,
+            buffer,
+            report,
+        )),
+        VersionFound::Unknown => Some(refuse(UNREAD, report)),
     }
 }

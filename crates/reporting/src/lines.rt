@@ -4,6 +4,8 @@ ghost use Rattle.report_format.specs.Lines.{fresh, lines};
 ghost use Rattle.reporting.specs.Choices.{was_good, all_nan, shown};
 
 use report_format::{Reported, SERIES_LIMIT};
+use std::io;
+use std::io::Write;
 
 // A series as it is printed: the extremes by their bits.
 #[derive(Clone, Copy)]
@@ -22,15 +24,15 @@ fn is_good(answer: Reported) -> bool
 }
 
 // `segment`, its position, number and place, if it was refused or torn.
-pub(crate) fn segment(position: usize, answer: Reported) {
+pub(crate) fn segment<W: Write>(out: &mut W, position: usize, answer: Reported) -> io::Result<()> {
     if is_good(answer) {
-        return;
+        return Ok(());
     }
-    print::text(b"segment");
-    print::field(position as u64);
-    print::field(answer.number as u64);
-    print::field(answer.place);
-    print::end_line();
+    print::text(out, b"segment")?;
+    print::field(out, position as u64)?;
+    print::field(out, answer.number as u64)?;
+    print::field(out, answer.place)?;
+    print::end_line(out)
 }
 
 fn all_nan(rows: u64, nans: u64) -> bool
@@ -64,35 +66,35 @@ fn shown_at(report: &[u64; 1284], row: usize) -> Shown
 }
 
 // A space, and 64 bits as 16 hexadecimal digits.
-fn bits(n: u64) {
-    print::space();
-    io::print_hex(1, n, 16);
+fn bits<W: Write>(out: &mut W, n: u64) -> io::Result<()> {
+    write!(out, " {n:016x}")
 }
 
 // `series`, id, rows, NaN rows, and the extremes or `none`.
-fn series(line: Shown) {
-    print::text(b"series");
-    print::field(line.id);
-    print::field(line.rows);
-    print::field(line.nans);
+fn series<W: Write>(out: &mut W, line: Shown) -> io::Result<()> {
+    print::text(out, b"series")?;
+    print::field(out, line.id)?;
+    print::field(out, line.rows)?;
+    print::field(out, line.nans)?;
     if all_nan(line.rows, line.nans) {
-        print::text(b" none");
+        print::text(out, b" none")?;
     } else {
-        bits(line.smallest);
-        bits(line.largest);
+        bits(out, line.smallest)?;
+        bits(out, line.largest)?;
     }
-    print::end_line();
+    print::end_line(out)
 }
 
 // A line for each series, as first met.
-pub(crate) fn all_series(report: &[u64; 1284]) {
+pub(crate) fn all_series<W: Write>(out: &mut W, report: &[u64; 1284]) -> io::Result<()> {
     let count = report[0];
     let mut row: usize = 0;
     while row < SERIES_LIMIT {
         if (row as u64) < count {
             let line = shown_at(report, row);
-            series(line);
+            series(out, line)?;
         }
         row += 1;
     }
+    Ok(())
 }

@@ -1,37 +1,44 @@
 // The lines that the program prints.
 use print::{field, text};
 use segment_format::Good;
+use std::io;
+use std::io::Write;
 use wal_types::{Offset, Refusal};
 
-pub(crate) fn opened(length: usize) {
-    text(b"segment");
-    field(length as u64);
-    text(b"\n");
+pub(crate) fn opened<W: Write>(out: &mut W, length: usize) -> io::Result<()> {
+    text(out, b"segment")?;
+    field(out, length as u64)?;
+    text(out, b"\n")
 }
 
-pub(crate) fn yielded(start: Offset, length: usize, next: Offset) {
-    text(b"record");
-    field(start.0 as u64);
-    field(length as u64);
-    field(next.0 as u64);
+pub(crate) fn yielded<W: Write>(
+    out: &mut W,
+    start: Offset,
+    length: usize,
+    next: Offset,
+) -> io::Result<()> {
+    text(out, b"record")?;
+    field(out, start.0 as u64)?;
+    field(out, length as u64)?;
+    field(out, next.0 as u64)
 }
 
-pub(crate) fn ended() {
-    text(b"end");
+pub(crate) fn ended<W: Write>(out: &mut W) -> io::Result<()> {
+    text(out, b"end")
 }
 
-pub(crate) fn refused(why: Refusal) {
-    text(b"refused");
+pub(crate) fn refused<W: Write>(out: &mut W, why: Refusal) -> io::Result<()> {
+    text(out, b"refused")?;
     let n = wal_types::number(why);
-    field(n as u64);
+    field(out, n as u64)?;
     let place = wal_types::place(why);
-    field(place.0 as u64);
+    field(out, place.0 as u64)
 }
 
 // The good length, which every line ends with.
-pub(crate) fn good(good: Good) {
-    text(b" good");
-    field(good.records as u64);
-    field(good.offset.0 as u64);
-    text(b"\n");
+pub(crate) fn good<W: Write>(out: &mut W, good: Good) -> io::Result<()> {
+    text(out, b" good")?;
+    field(out, good.records as u64)?;
+    field(out, good.offset.0 as u64)?;
+    text(out, b"\n")
 }

@@ -19,6 +19,8 @@ mod lines;
 
 use segment_cursor::Spot;
 use segment_format::{Good, ReadAnswer, WriteAnswer};
+use std::io;
+use std::io::{BufWriter, Write};
 use wal_types::{Offset, Version};
 
 const RECORDS: usize = 8;
@@ -30,14 +32,16 @@ const READS: usize = 10;
 
 const CUT: usize = 100000;
 
-fn main() {
+fn main(rt: HostRuntime) -> io::Result<()> {
+    let mut out = BufWriter::new(rt.alloc(), io::writer(&rt))?;
     let mut bytes = [0u8; 65536];
     count_up(&mut bytes);
     let mut segment = [0u8; 131072];
     write_records(&mut segment, &bytes);
     let mut buffer = [0u8; 65536];
-    read_records(&segment, &mut buffer);
-    read_cut(&segment, CUT, &mut buffer);
+    read_records(&mut out, &segment, &mut buffer)?;
+    read_cut(&mut out, &segment, CUT, &mut buffer)?;
+    out.flush()
 }
 
 // Byte i becomes i modulo 256.
@@ -74,15 +78,20 @@ fn write_record(segment: &mut [u8], place: Offset, bytes: &[u8], length: usize) 
 }
 
 // Reads the segment cut after `length` bytes.
-fn read_cut(segment: &[u8], length: usize, buffer: &mut [u8]) {
+fn read_cut<W: Write>(
+    out: &mut W,
+    segment: &[u8],
+    length: usize,
+    buffer: &mut [u8],
+) -> io::Result<()> {
     if segment.len() < length {
-        return;
+        return Ok(());
     }
-    read_records(&segment[..length], buffer);
+    read_records(out, &segment[..length], buffer)
 }
 
-fn read_records(segment: &[u8], buffer: &mut [u8]) {
-    lines::opened(segment.len());
+fn read_records<W: Write>(out: &mut W, segment: &[u8], buffer: &mut [u8]) -> io::Result<()> {
+    lines::opened(out, segment.len())?;
     let mut spot = Spot {
         version: Version::One,
         place: Offset(0),
@@ -94,13 +103,14 @@ fn read_records(segment: &[u8], buffer: &mut [u8]) {
     let mut k = 0;
     while k < READS {
         let step = segment_cursor::read_on(segment, spot, buffer);
-        spot = print_step(step);
+        spot = print_step(out, step)?;
         k += 1;
     }
+    Ok(())
 }
 
 // Prints what a read answered and its good length, and returns where the next one is.
-fn print_step(step: segment_cursor::Advance) -> Spot {
+fn print_step<W: Write>(out: &mut W, step: segment_cursor::Advance) -> io::Result<Spot> {
     let read = step.read;
     let answer = read.answer;
     match answer {
@@ -108,11 +118,11 @@ fn print_step(step: segment_cursor::Advance) -> Spot {
             start,
             length,
             next,
-        } => lines::yielded(start, length, next),
-        ReadAnswer::End => lines::ended(),
-        ReadAnswer::Refused(why) => lines::refused(why),
+        } => lines::yielded(out, start, length, next)?,
+        ReadAnswer::End => lines::ended(out)?,
+        ReadAnswer::Refused(why) => lines::refused(out, why)?,
     }
     let good = read.good;
-    lines::good(good);
-    step.spot
+    lines::good(out, good)?;
+    Ok(step.spot)
 }

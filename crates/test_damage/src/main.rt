@@ -8,51 +8,60 @@ mod search;
 
 ghost use Rattle.std.specs.Prelude.{◌<◌, length};
 
+use full_read::read_full;
 use items::{Count, SEGMENT_MAX};
 use print::text;
+use std::io;
+use std::io::{BufWriter, Write};
 
-fn main() {
+fn main(rt: HostRuntime) -> io::Result<()> {
     let mut table = [0u8; 32768];
     let mut segment = [0u8; SEGMENT_MAX];
-    let got = io::read_full(0, &mut table);
+    let mut input = rt.reader();
+    let mut out = BufWriter::new(rt.alloc(), io::writer(&rt))?;
+    let (got, ended) = read_full(&mut input, &mut table);
+    ended?;
     // Whether more bytes follow: the segment is unused until the first case.
-    let more = io::read_full(0, &mut segment);
+    let (more, ended) = read_full(&mut input, &mut segment);
+    ended?;
     if 0 < more {
-        text(b"the table is too long\n");
-        return;
+        text(&mut out, b"the table is too long\n")?;
+        return out.flush();
     }
-    answer_cases(&table[..got], &mut segment);
+    answer_cases(&mut out, &table[..got], &mut segment)?;
+    out.flush()
 }
 
 // Every line that is no comment. A line is taken with its newline.
-fn answer_cases(table: &[u8], segment: &mut [u8]) {
+fn answer_cases<W: Write>(out: &mut W, table: &[u8], segment: &mut [u8]) -> io::Result<()> {
     let mut at = 0;
     while at < table.len() {
         let next = search::behind_first(table, at, b'\n');
         if table[at] != b'#' {
-            answer_case(&table[at..next], segment);
+            answer_case(out, &table[at..next], segment)?;
         }
         at = next;
     }
+    Ok(())
 }
 
 // Prints the line with the answer of this library in place of its own. A malformed line is printed
 // with words before it, so that it differs from the table.
-fn answer_case(line: &[u8], segment: &mut [u8])
+fn answer_case<W: Write>(out: &mut W, line: &[u8], segment: &mut [u8]) -> io::Result<()>
     requires { 0 < length line.now }
 {
     let name = search::behind_first(line, 0, b';');
     let bytes = search::behind_last(line);
     match items::expand(&line[bytes..], segment) {
         Count::Of(n) => {
-            text(&line[..name]);
-            text(b" ");
-            listing::list(&segment[..n], b"; ");
-            text(&line[bytes..]);
+            text(out, &line[..name])?;
+            text(out, b" ")?;
+            listing::list(out, &segment[..n], b"; ")?;
+            text(out, &line[bytes..])
         }
         Count::Malformed => {
-            text(b"malformed or too long: ");
-            text(line);
+            text(out, b"malformed or too long: ")?;
+            text(out, line)
         }
     }
 }

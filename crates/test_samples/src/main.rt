@@ -13,85 +13,97 @@
 mod lines;
 mod list;
 
-fn main() {
-    types();
-    switches();
-    deltas();
-    rows();
-    others();
-    long_and_cut();
+use std::io;
+use std::io::{BufWriter, Write};
+
+fn main(rt: HostRuntime) -> io::Result<()> {
+    let mut out = BufWriter::new(rt.alloc(), io::writer(&rt))?;
+    types(&mut out)?;
+    switches(&mut out)?;
+    deltas(&mut out)?;
+    rows(&mut out)?;
+    others(&mut out)?;
+    long_and_cut(&mut out)?;
+    out.flush()
 }
 
 // No byte; an unknown type; a series body; a samples body without an entry; one that ends before
 // its first time.
-fn types() {
-    show(b"");
-    show(b"\x05");
-    show(b"\x01");
-    show(b"\x02");
-    show(b"\x02\0\0\0\0\0\0\0\0");
+fn types<W: Write>(out: &mut W) -> io::Result<()> {
+    show(out, b"")?;
+    show(out, b"\x05")?;
+    show(out, b"\x01")?;
+    show(out, b"\x02")?;
+    show(out, b"\x02\0\0\0\0\0\0\0\0")
 }
 
 // The switch of FORMAT 13, at time 1000 id 7 to 0 and id 8 to 1.0: without its rows, whole, and
 // without its last byte.
-fn switches() {
-    show(b"\x02\0\0\0\0\0\0\0\x07\0\0\0\0\0\0\x03\xE8");
+fn switches<W: Write>(out: &mut W) -> io::Result<()> {
+    show(out, b"\x02\0\0\0\0\0\0\0\x07\0\0\0\0\0\0\x03\xE8")?;
     show(
+        out,
         b"\x02\0\0\0\0\0\0\0\x07\0\0\0\0\0\0\x03\xE8\
         \0\0\0\0\0\0\0\0\0\0\
         \x02\0\x3F\xF0\0\0\0\0\0\0",
-    );
+    )?;
     show(
+        out,
         b"\x02\0\0\0\0\0\0\0\x07\0\0\0\0\0\0\x03\xE8\
         \0\0\0\0\0\0\0\0\0\0\
         \x02\0\x3F\xF0\0\0\0\0\0",
-    );
+    )
 }
 
 // An id delta whose tenth byte is above 1, and a row whose id and time are one less than the first.
-fn deltas() {
+fn deltas<W: Write>(out: &mut W) -> io::Result<()> {
     show(
+        out,
         b"\x02\0\0\0\0\0\0\0\x07\0\0\0\0\0\0\x03\xE8\
         \xFF\xFF\xFF\xFF\xFF\xFF\xFF\xFF\xFF\xFF",
-    );
+    )?;
     show(
+        out,
         b"\x02\0\0\0\0\0\0\0\x07\0\0\0\0\0\0\x03\xE8\
         \0\0\0\0\0\0\0\0\0\x01\
         \x01\x01\0\0\0\0\0\0\0\x02",
-    );
+    )
 }
 
 // Four rows, which the list just holds, and five, which it does not.
-fn rows() {
+fn rows<W: Write>(out: &mut W) -> io::Result<()> {
     show(
+        out,
         b"\x02\0\0\0\0\0\0\0\x07\0\0\0\0\0\0\x03\xE8\
         \0\0\0\0\0\0\0\0\0\x01\
         \0\0\0\0\0\0\0\0\0\x02\
         \0\0\0\0\0\0\0\0\0\x03\
         \0\0\0\0\0\0\0\0\0\x04",
-    );
+    )?;
     show(
+        out,
         b"\x02\0\0\0\0\0\0\0\x07\0\0\0\0\0\0\x03\xE8\
         \0\0\0\0\0\0\0\0\0\x01\
         \0\0\0\0\0\0\0\0\0\x02\
         \0\0\0\0\0\0\0\0\0\x03\
         \0\0\0\0\0\0\0\0\0\x04\
         \0\0\0\0\0\0\0\0\0\x05",
-    );
+    )
 }
 
 // Bodies of the other types, the first and the last of which end inside a field: the type is tested
 // before the fields.
-fn others() {
-    show(b"\x03\x01");
-    show(b"\x04");
-    show(b"\x06\x80");
+fn others<W: Write>(out: &mut W) -> io::Result<()> {
+    show(out, b"\x03\x01")?;
+    show(out, b"\x04")?;
+    show(out, b"\x06\x80")
 }
 
 // Five rows, and a sixth that ends after its id delta: the fault is reported, not that the list is
 // too short.
-fn long_and_cut() {
+fn long_and_cut<W: Write>(out: &mut W) -> io::Result<()> {
     show(
+        out,
         b"\x02\0\0\0\0\0\0\0\x07\0\0\0\0\0\0\x03\xE8\
         \0\0\0\0\0\0\0\0\0\x01\
         \0\0\0\0\0\0\0\0\0\x02\
@@ -99,16 +111,16 @@ fn long_and_cut() {
         \0\0\0\0\0\0\0\0\0\x04\
         \0\0\0\0\0\0\0\0\0\x05\
         \0",
-    );
+    )
 }
 
-fn show(body: &[u8]) {
+fn show<W: Write>(out: &mut W, body: &[u8]) -> io::Result<()> {
     let filled = list::fill(body, list::nines());
     let answer = filled.answer;
-    lines::answered(body.len(), answer);
+    lines::answered(out, body.len(), answer)?;
     let list = filled.list;
-    lines::sample(list[0]);
-    lines::sample(list[1]);
-    lines::sample(list[2]);
-    lines::sample(list[3]);
+    lines::sample(out, list[0])?;
+    lines::sample(out, list[1])?;
+    lines::sample(out, list[2])?;
+    lines::sample(out, list[3])
 }

@@ -1,6 +1,8 @@
 // The checksum's vectors, and varints encoded and decoded.
 ghost use Rattle.std.specs.Prelude.{◌≤◌};
 
+use std::io;
+use std::io::Write;
 use uvarint::UvarintRead;
 
 // RFC 3720, appendix B.4: a SCSI read command, 48 bytes.
@@ -20,22 +22,27 @@ const DOWN: [u8; 32] = [
 ];
 
 // The empty input, RFC 3720's vectors, and the usual check value.
-pub(crate) fn checksums() {
-    checksum(b"");
-    checksum(&[0u8; 32]);
-    checksum(&[255u8; 32]);
-    checksum(&UP);
-    checksum(&DOWN);
-    checksum(&READ_COMMAND);
-    checksum(b"123456789");
+pub(crate) fn checksums<W: Write>(out: &mut W) -> io::Result<()> {
+    checksum(out, b"")?;
+    checksum(out, &[0u8; 32])?;
+    checksum(out, &[255u8; 32])?;
+    checksum(out, &UP)?;
+    checksum(out, &DOWN)?;
+    checksum(out, &READ_COMMAND)?;
+    checksum(out, b"123456789")
 }
 
-fn checksum(data: &[u8]) {
-    print::text(b"crc32c ");
-    print::number(data.len() as u64);
-    print::space();
-    io::print_hex(1, crc32c::checksum(data) as u64, 8);
-    print::end_line();
+fn checksum<W: Write>(out: &mut W, data: &[u8]) -> io::Result<()> {
+    print::text(out, b"crc32c ")?;
+    print::number(out, data.len() as u64)?;
+    print::space(out)?;
+    checksum_digits(out, data)?;
+    print::end_line(out)
+}
+
+// The checksum of some bytes, as eight hexadecimal digits.
+pub(crate) fn checksum_digits<W: Write>(out: &mut W, data: &[u8]) -> io::Result<()> {
+    write!(out, "{:08x}", crc32c::checksum(data))
 }
 
 // Twice a number, as long as that is not above the largest wanted.
@@ -47,102 +54,105 @@ fn doubled(n: u64, most: u64) -> u64
 }
 
 // 2^k - 1, 2^k and 2^k + 1 for k from 0 to 63, and 2^64 - 1.
-pub(crate) fn uvarints() {
+pub(crate) fn uvarints<W: Write>(out: &mut W) -> io::Result<()> {
     let mut power: u64 = 1;
     for k in 0u64..64 {
-        uvarint(power - 1);
-        uvarint(power);
-        uvarint(power + 1);
+        uvarint(out, power - 1)?;
+        uvarint(out, power)?;
+        uvarint(out, power + 1)?;
         power = doubled(power, 0x8000_0000_0000_0000);
     }
-    uvarint(u64::MAX);
+    uvarint(out, u64::MAX)
 }
 
-fn uvarint(n: u64) {
+fn uvarint<W: Write>(out: &mut W, n: u64) -> io::Result<()> {
     let mut buffer = [0u8; 10];
     let end = uvarint::put_uvarint(&mut buffer, 0, n);
-    print::text(b"uvarint ");
-    print::number(n);
-    print::space();
-    print::number(uvarint::uvarint_len(n) as u64);
-    print::space();
-    print::bytes(&buffer, end);
-    print::end_line();
+    print::text(out, b"uvarint ")?;
+    print::number(out, n)?;
+    print::space(out)?;
+    print::number(out, uvarint::uvarint_len(n) as u64)?;
+    print::space(out)?;
+    print::bytes(out, &buffer, end)?;
+    print::end_line(out)
 }
 
 // 2^k - 1, 2^k, -2^k and -2^k - 1 for k from 0 to 62, and both ends. They are given by their
 // zigzags, so that these are tried both ways.
-pub(crate) fn varints() {
+pub(crate) fn varints<W: Write>(out: &mut W) -> io::Result<()> {
     let mut power: u64 = 1;
     for k in 0u64..63 {
-        varint(power * 2 - 2);
-        varint(power * 2);
-        varint(power * 2 - 1);
-        varint(power * 2 + 1);
+        varint(out, power * 2 - 2)?;
+        varint(out, power * 2)?;
+        varint(out, power * 2 - 1)?;
+        varint(out, power * 2 + 1)?;
         power = doubled(power, 0x4000_0000_0000_0000);
     }
-    varint(u64::MAX - 1);
-    varint(u64::MAX);
+    varint(out, u64::MAX - 1)?;
+    varint(out, u64::MAX)
 }
 
-fn varint(zigzag: u64) {
+fn varint<W: Write>(out: &mut W, zigzag: u64) -> io::Result<()> {
     let x = varint::zigzag_back(zigzag);
     let mut buffer = [0u8; 10];
     let end = varint::put_varint(&mut buffer, 0, x);
-    print::text(b"varint ");
-    print::signed(varint::zigzag_of(x));
-    print::space();
-    print::number(varint::varint_len(x) as u64);
-    print::space();
-    print::bytes(&buffer, end);
-    print::end_line();
+    print::text(out, b"varint ")?;
+    print::signed(out, varint::zigzag_of(x))?;
+    print::space(out)?;
+    print::number(out, varint::varint_len(x) as u64)?;
+    print::space(out)?;
+    print::bytes(out, &buffer, end)?;
+    print::end_line(out)
 }
 
-pub(crate) fn readings() {
-    reading(b"");
-    reading(&[0x00]);
-    reading(&[0x7F]);
-    reading(&[0x80]);
-    reading(&[0x80, 0x01]);
-    reading(&[0xAC, 0x02]);
-    reading(&[0xAC, 0x82, 0x00]);
-    reading(&[0xAC, 0x82, 0x80, 0x80, 0x00]);
-    reading(&[0x80u8; 9]);
-    reading_ten(0x80, 0x00);
-    reading_ten(0x80, 0x01);
-    reading_ten(0x80, 0x02);
-    reading_ten(0x80, 0x80);
-    reading_ten(0xFF, 0x01);
-    reading_ten(0xFF, 0x7F);
-    reading_ten(0xFF, 0xFF);
-    reading(&[
-        0x80, 0x80, 0x80, 0x80, 0x80, 0x80, 0x80, 0x80, 0x80, 0x80, 0x00,
-    ]);
-    reading(&[0x01, 0xFF]);
+pub(crate) fn readings<W: Write>(out: &mut W) -> io::Result<()> {
+    reading(out, b"")?;
+    reading(out, &[0x00])?;
+    reading(out, &[0x7F])?;
+    reading(out, &[0x80])?;
+    reading(out, &[0x80, 0x01])?;
+    reading(out, &[0xAC, 0x02])?;
+    reading(out, &[0xAC, 0x82, 0x00])?;
+    reading(out, &[0xAC, 0x82, 0x80, 0x80, 0x00])?;
+    reading(out, &[0x80u8; 9])?;
+    reading_ten(out, 0x80, 0x00)?;
+    reading_ten(out, 0x80, 0x01)?;
+    reading_ten(out, 0x80, 0x02)?;
+    reading_ten(out, 0x80, 0x80)?;
+    reading_ten(out, 0xFF, 0x01)?;
+    reading_ten(out, 0xFF, 0x7F)?;
+    reading_ten(out, 0xFF, 0xFF)?;
+    reading(
+        out,
+        &[
+            0x80, 0x80, 0x80, 0x80, 0x80, 0x80, 0x80, 0x80, 0x80, 0x80, 0x00,
+        ],
+    )?;
+    reading(out, &[0x01, 0xFF])
 }
 
 // Nine times a byte, and then another.
-fn reading_ten(nine: u8, tenth: u8) {
+fn reading_ten<W: Write>(out: &mut W, nine: u8, tenth: u8) -> io::Result<()> {
     let mut data = [nine; 10];
     data[9] = tenth;
-    reading(&data);
+    reading(out, &data)
 }
 
-fn reading(data: &[u8]) {
-    print::text(b"read ");
+fn reading<W: Write>(out: &mut W, data: &[u8]) -> io::Result<()> {
+    print::text(out, b"read ")?;
     if data.len() == 0 {
-        print::text(b"-");
+        print::text(out, b"-")?;
     }
-    print::bytes(data, data.len());
+    print::bytes(out, data, data.len())?;
     match uvarint::get_uvarint(data, 0) {
         UvarintRead::Value { n, len } => {
-            print::text(b" value ");
-            print::number(n);
-            print::space();
-            print::number(len as u64);
+            print::text(out, b" value ")?;
+            print::number(out, n)?;
+            print::space(out)?;
+            print::number(out, len as u64)?;
         }
-        UvarintRead::Short => print::text(b" short"),
-        UvarintRead::BadVarint => print::text(b" bad"),
+        UvarintRead::Short => print::text(out, b" short")?,
+        UvarintRead::BadVarint => print::text(out, b" bad")?,
     }
-    print::end_line();
+    print::end_line(out)
 }

@@ -5,12 +5,17 @@
 mod fields;
 mod segments;
 
-fn main() {
-    fields::checksums();
-    fields::uvarints();
-    fields::varints();
-    fields::readings();
-    segments::writes();
-    segments::types();
-    segments::cuts();
+use std::io;
+use std::io::{BufWriter, Write};
+
+fn main(rt: HostRuntime) -> io::Result<()> {
+    let mut out = BufWriter::new(rt.alloc(), io::writer(&rt))?;
+    fields::checksums(&mut out)?;
+    fields::uvarints(&mut out)?;
+    fields::varints(&mut out)?;
+    fields::readings(&mut out)?;
+    segments::writes(&mut out)?;
+    segments::types(&mut out)?;
+    segments::cuts(&mut out)?;
+    out.flush()
 }

@@ -2,101 +2,104 @@
 // (FORMAT 6.3, 6.4), and the cuts of the switch segment.
 ghost use Rattle.std.specs.Prelude.{◌≡◌, ◌<◌, length};
 
+use crate::fields::checksum_digits;
 use numbers::wide;
 use segment_format::{Good, ReadAnswer, WriteAnswer};
+use std::io;
+use std::io::Write;
 use wal_types::{Offset, Refusal, Version};
 
 // ---- writes; a record of 0 bytes is Hollow (FORMAT 5.1)
 
-pub(crate) fn writes() {
-    one_page();
-    seven_left(1, 32776, 5);
-    seven_left(0, 32768, 1);
-    then_one(32755, 32768);
-    then_one(32761, 32768);
-    then_one(32762, 32776);
-    three_pages();
-    full();
-    one_too_many();
-    places();
+pub(crate) fn writes<W: Write>(out: &mut W) -> io::Result<()> {
+    one_page(out)?;
+    seven_left(out, 1, 32776, 5)?;
+    seven_left(out, 0, 32768, 1)?;
+    then_one(out, 32755, 32768)?;
+    then_one(out, 32761, 32768)?;
+    then_one(out, 32762, 32776)?;
+    three_pages(out)?;
+    full(out)?;
+    one_too_many(out)?;
+    places(out)
 }
 
-fn one_page() {
+fn one_page<W: Write>(out: &mut W) -> io::Result<()> {
     let mut slice = [0u8; 32768];
-    slice_line(1);
-    write(&mut slice, 0, 0);
-    write(&mut slice, 7, 37);
-    write(&mut slice, 51, 0);
-    sum_line(&slice);
+    slice_line(out, 1)?;
+    write(out, &mut slice, 0, 0)?;
+    write(out, &mut slice, 7, 37)?;
+    write(out, &mut slice, 51, 0)?;
+    sum_line(out, &slice)
 }
 
 // A record of 32,754 bytes leaves 7.
-fn seven_left(second: usize, place: usize, third: usize) {
+fn seven_left<W: Write>(out: &mut W, second: usize, place: usize, third: usize) -> io::Result<()> {
     let mut slice = [0u8; 65536];
-    slice_line(2);
-    write(&mut slice, 0, 32754);
-    write(&mut slice, 32761, second);
-    write(&mut slice, place, third);
-    sum_line(&slice);
+    slice_line(out, 2)?;
+    write(out, &mut slice, 0, 32754)?;
+    write(out, &mut slice, 32761, second)?;
+    write(out, &mut slice, place, third)?;
+    sum_line(out, &slice)
 }
 
-fn then_one(first: usize, place: usize) {
+fn then_one<W: Write>(out: &mut W, first: usize, place: usize) -> io::Result<()> {
     let mut slice = [0u8; 65536];
-    slice_line(2);
-    write(&mut slice, 0, first);
-    write(&mut slice, place, 1);
-    sum_line(&slice);
+    slice_line(out, 2)?;
+    write(out, &mut slice, 0, first)?;
+    write(out, &mut slice, place, 1)?;
+    sum_line(out, &slice)
 }
 
-fn three_pages() {
+fn three_pages<W: Write>(out: &mut W) -> io::Result<()> {
     let mut slice = [0u8; 98304];
-    slice_line(3);
-    write(&mut slice, 0, 65536);
-    write(&mut slice, 65557, 1);
-    sum_line(&slice);
+    slice_line(out, 3)?;
+    write(out, &mut slice, 0, 65536)?;
+    write(out, &mut slice, 65557, 1)?;
+    sum_line(out, &slice)
 }
 
 // Two pages hold 65,522.
-fn full() {
+fn full<W: Write>(out: &mut W) -> io::Result<()> {
     let mut slice = [0u8; 65536];
-    slice_line(2);
-    write(&mut slice, 0, 65522);
-    write(&mut slice, 65536, 0);
-    write(&mut slice, 65536, 65537);
-    sum_line(&slice);
+    slice_line(out, 2)?;
+    write(out, &mut slice, 0, 65522)?;
+    write(out, &mut slice, 65536, 0)?;
+    write(out, &mut slice, 65536, 65537)?;
+    sum_line(out, &slice)
 }
 
-fn one_too_many() {
+fn one_too_many<W: Write>(out: &mut W) -> io::Result<()> {
     let mut slice = [0u8; 65536];
-    slice_line(2);
-    write(&mut slice, 0, 65523);
-    write(&mut slice, 0, 65537);
-    sum_line(&slice);
+    slice_line(out, 2)?;
+    write(out, &mut slice, 0, 65523)?;
+    write(out, &mut slice, 0, 65537)?;
+    sum_line(out, &slice)
 }
 
-fn places() {
+fn places<W: Write>(out: &mut W) -> io::Result<()> {
     let mut slice = [0u8; 65536];
-    slice_line(2);
-    write(&mut slice, 65529, 1);
-    write(&mut slice, 65529, 0);
-    write(&mut slice, 32761, 32761);
-    write(&mut slice, 32761, 32762);
-    write(&mut slice, 32762, 0);
-    write(&mut slice, 32767, 0);
-    write(&mut slice, 65537, 0);
-    sum_line(&slice);
+    slice_line(out, 2)?;
+    write(out, &mut slice, 65529, 1)?;
+    write(out, &mut slice, 65529, 0)?;
+    write(out, &mut slice, 32761, 32761)?;
+    write(out, &mut slice, 32761, 32762)?;
+    write(out, &mut slice, 32762, 0)?;
+    write(out, &mut slice, 32767, 0)?;
+    write(out, &mut slice, 65537, 0)?;
+    sum_line(out, &slice)
 }
 
-fn slice_line(pages: u64) {
-    print::text(b"slice ");
-    print::number(pages);
-    print::end_line();
+fn slice_line<W: Write>(out: &mut W, pages: u64) -> io::Result<()> {
+    print::text(out, b"slice ")?;
+    print::number(out, pages)?;
+    print::end_line(out)
 }
 
-fn sum_line(slice: &[u8]) {
-    print::text(b"sum ");
-    io::print_hex(1, crc32c::checksum(slice) as u64, 8);
-    print::end_line();
+fn sum_line<W: Write>(out: &mut W, slice: &[u8]) -> io::Result<()> {
+    print::text(out, b"sum ")?;
+    checksum_digits(out, slice)?;
+    print::end_line(out)
 }
 
 // Byte i of every record is i modulo 256.
@@ -112,25 +115,25 @@ fn pattern() -> [u8; 65537]
     bytes
 }
 
-fn write(slice: &mut [u8], place: usize, count: usize) {
+fn write<W: Write>(out: &mut W, slice: &mut [u8], place: usize, count: usize) -> io::Result<()> {
     let bytes = pattern();
     if 65537 < count {
-        return;
+        return Ok(());
     }
-    print::text(b"write ");
-    print::number(place as u64);
-    print::space();
-    print::number(count as u64);
-    print::text(b" -> ");
+    print::text(out, b"write ")?;
+    print::number(out, place as u64)?;
+    print::space(out)?;
+    print::number(out, count as u64)?;
+    print::text(out, b" -> ")?;
     let answer = segment_writer::write(Version::One, slice, Offset(place), &bytes[..count]);
     match answer {
         WriteAnswer::Next(next) => {
-            print::text(b"next ");
-            print::number(next.0 as u64);
-            print::end_line();
-            fragments(slice, place);
+            print::text(out, b"next ")?;
+            print::number(out, next.0 as u64)?;
+            print::end_line(out)?;
+            fragments(out, slice, place)
         }
-        WriteAnswer::Refused(why) => refused(why),
+        WriteAnswer::Refused(why) => refused(out, why),
     }
 }
 
@@ -169,54 +172,55 @@ fn header_at(slice: &[u8], place: usize) -> Header {
 }
 
 // The headers from a place on, up to a full or last one; no record has more than four.
-fn fragments(slice: &[u8], place: usize) {
+fn fragments<W: Write>(out: &mut W, slice: &[u8], place: usize) -> io::Result<()> {
     let mut at = place;
     let mut k: usize = 0;
     while k < 4 {
         let header = header_at(slice, at);
-        fragment_line(at, header);
+        fragment_line(out, at, header)?;
         if ends(header.kind) {
-            return;
+            return Ok(());
         }
         at = header.next;
         k += 1;
     }
+    Ok(())
 }
 
 fn ends(kind: u8) -> bool {
     kind == 1 || kind == 4
 }
 
-fn fragment_line(place: usize, header: Header) {
-    print::text(b"fragment ");
-    print::number(place as u64);
-    print::space();
-    print::number(header.kind as u64);
-    print::space();
-    print::number(header.count as u64);
-    print::end_line();
+fn fragment_line<W: Write>(out: &mut W, place: usize, header: Header) -> io::Result<()> {
+    print::text(out, b"fragment ")?;
+    print::number(out, place as u64)?;
+    print::space(out)?;
+    print::number(out, header.kind as u64)?;
+    print::space(out)?;
+    print::number(out, header.count as u64)?;
+    print::end_line(out)
 }
 
-fn refused(why: Refusal) {
+fn refused<W: Write>(out: &mut W, why: Refusal) -> io::Result<()> {
     let place = wal_types::place(why);
-    print::text(b"refused ");
-    print::number(wal_types::number(why) as u64);
-    print::space();
-    print::number(place.0 as u64);
-    print::end_line();
+    print::text(out, b"refused ")?;
+    print::number(out, wal_types::number(why) as u64)?;
+    print::space(out)?;
+    print::number(out, place.0 as u64)?;
+    print::end_line(out)
 }
 
 // ---- types and cuts
 
-pub(crate) fn types() {
-    type_line(0x09);
-    type_line(0x21);
-    type_line(0x29);
-    type_line(0x05);
-    type_line(0xE0);
-    type_line(0x18);
-    type_line(0x03);
-    type_line(0x04);
+pub(crate) fn types<W: Write>(out: &mut W) -> io::Result<()> {
+    type_line(out, 0x09)?;
+    type_line(out, 0x21)?;
+    type_line(out, 0x29)?;
+    type_line(out, 0x05)?;
+    type_line(out, 0xE0)?;
+    type_line(out, 0x18)?;
+    type_line(out, 0x03)?;
+    type_line(out, 0x04)
 }
 
 // The pair that a first read is given.
@@ -227,35 +231,35 @@ fn none_yet() -> Good {
     }
 }
 
-fn type_line(kind: u8) {
+fn type_line<W: Write>(out: &mut W, kind: u8) -> io::Result<()> {
     let segment = [kind, 0, 0, 0, 0, 0, 0];
     let mut buffer = [0u8; 65536];
-    print::text(b"type ");
-    io::print_hex(1, kind as u64, 2);
-    print::text(b" -> ");
+    print::text(out, b"type ")?;
+    print::byte(out, kind)?;
+    print::text(out, b" -> ")?;
     let none = none_yet();
     let read = segment_reader::read(Version::One, &segment, Offset(0), &mut buffer, none);
     let answer = read.answer;
-    answer_line(answer);
+    answer_line(out, answer)
 }
 
-fn answer_line(answer: ReadAnswer) {
+fn answer_line<W: Write>(out: &mut W, answer: ReadAnswer) -> io::Result<()> {
     match answer {
         ReadAnswer::Record {
             start,
             length,
             next,
         } => {
-            print::text(b"record ");
-            print::number(start.0 as u64);
-            print::space();
-            print::number(length as u64);
-            print::space();
-            print::number(next.0 as u64);
-            print::end_line();
+            print::text(out, b"record ")?;
+            print::number(out, start.0 as u64)?;
+            print::space(out)?;
+            print::number(out, length as u64)?;
+            print::space(out)?;
+            print::number(out, next.0 as u64)?;
+            print::end_line(out)
         }
-        ReadAnswer::End => print::text(b"end\n"),
-        ReadAnswer::Refused(why) => refused(why),
+        ReadAnswer::End => print::text(out, b"end\n"),
+        ReadAnswer::Refused(why) => refused(out, why),
     }
 }
 
@@ -265,29 +269,29 @@ const SWITCH: [u8; 37] = [
     0x3F, 0xF0, 0, 0, 0, 0, 0, 0,
 ];
 
-pub(crate) fn cuts() {
+pub(crate) fn cuts<W: Write>(out: &mut W) -> io::Result<()> {
     let mut slice = [0u8; 32768];
     let mut buffer = [0u8; 65536];
     let switch = SWITCH;
     segment_writer::write(Version::One, &mut slice, Offset(0), &switch);
-    cut(&slice, 44, &mut buffer);
-    cut(&slice, 43, &mut buffer);
-    cut(&slice, 7, &mut buffer);
-    cut(&slice, 6, &mut buffer);
-    cut(&slice, 1, &mut buffer);
-    cut(&slice, 0, &mut buffer);
+    cut(out, &slice, 44, &mut buffer)?;
+    cut(out, &slice, 43, &mut buffer)?;
+    cut(out, &slice, 7, &mut buffer)?;
+    cut(out, &slice, 6, &mut buffer)?;
+    cut(out, &slice, 1, &mut buffer)?;
+    cut(out, &slice, 0, &mut buffer)
 }
 
 // Reads the first `count` bytes from the start: one record or none, and then how it ends.
-fn cut(slice: &[u8], count: usize, buffer: &mut [u8]) {
+fn cut<W: Write>(out: &mut W, slice: &[u8], count: usize, buffer: &mut [u8]) -> io::Result<()> {
     if slice.len() < count {
-        return;
+        return Ok(());
     }
     let none = none_yet();
     let read = segment_reader::read(Version::One, &slice[..count], Offset(0), buffer, none);
     let answer = read.answer;
     let good = read.good;
-    cut_line(count, answer);
+    cut_line(out, count, answer)?;
     match answer {
         ReadAnswer::Record {
             start: _,
@@ -296,16 +300,16 @@ fn cut(slice: &[u8], count: usize, buffer: &mut [u8]) {
         } => {
             let second = segment_reader::read(Version::One, &slice[..count], next, buffer, good);
             let then = second.answer;
-            cut_line(count, then);
+            cut_line(out, count, then)
         }
-        ReadAnswer::End => {}
-        ReadAnswer::Refused(_) => {}
+        ReadAnswer::End => Ok(()),
+        ReadAnswer::Refused(_) => Ok(()),
     }
 }
 
-fn cut_line(count: usize, answer: ReadAnswer) {
-    print::text(b"cut ");
-    print::number(count as u64);
-    print::text(b" -> ");
-    answer_line(answer);
+fn cut_line<W: Write>(out: &mut W, count: usize, answer: ReadAnswer) -> io::Result<()> {
+    print::text(out, b"cut ")?;
+    print::number(out, count as u64)?;
+    print::text(out, b" -> ")?;
+    answer_line(out, answer)
 }

@@ -1,8 +1,5 @@
 -- `write_records`: the writes are counted, so they end.
-use borrow.Author.Rules.{rules}
-use Prim.Native.Nat.{◌-◌}
-use mathlib.Core.Path.{◌≡◌}
-use lib.ListN.{length}
+use Rattle.std.proofs.Common.{◌≡◌, ◌-◌, length}
 use Rattle.test_cursor.proofs.write_records.Given as goal
 
 abbrev pub invariant-loop-k : goal.invariant-loop-k

@@ -1,10 +1,9 @@
 -- `all_series`: the loop ends by its count of rows.
-use borrow.Author.Rules.{rules}
-use Prim.Native.Nat.{◌-◌, ◌≤◌}
+use Rattle.std.proofs.Common.{◌-◌, ◌≤◌}
 use Rattle.reporting.proofs.lines.all_series.Given as goal
 
 abbrev pub invariant-loop-row : goal.invariant-loop-row
-invariant-loop-row l = l.row ≤ 256
+invariant-loop-row g l = l.row ≤ 256
 
 abbrev pub decreases-loop-row : goal.decreases-loop-row
-decreases-loop-row l = 256 - l.row
+decreases-loop-row g l = 256 - l.row

@@ -1,7 +1,5 @@
 -- `decimal`: the number never grows above the longest segment, so it does not wrap.
-use borrow.Author.Rules.{rules}
-use Prim.Native.Nat.{◌-◌, ◌≤◌}
-use lib.ListN.{length}
+use Rattle.std.proofs.Common.{◌-◌, ◌≤◌, length}
 use Rattle.test_damage.proofs.items.decimal.Given as goal
 
 abbrev pub invariant-loop-i : goal.invariant-loop-i

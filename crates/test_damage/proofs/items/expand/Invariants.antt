@@ -1,9 +1,5 @@
 -- `expand` meets its contract: each item is stored after the last, inside the segment.
-use borrow.Author.Rules.{rules}
-use native.Mathlib.Omega.{arith}
-use Prim.Native.Nat.{◌-◌, ◌≤◌}
-use mathlib.Core.Path.{◌≡◌}
-use lib.ListN.{length}
+use Rattle.std.proofs.Common.{◌≡◌, ◌-◌, ◌≤◌, length}
 use Rattle.test_damage.proofs.items.expand.Given as goal
 
 abbrev pub invariant-loop-at : goal.invariant-loop-at

@@ -1,8 +1,5 @@
 -- `fill`: the bytes lie inside the segment, whose length stays.
-use borrow.Author.Rules.{rules}
-use Prim.Native.Nat.{◌-◌}
-use mathlib.Core.Path.{◌≡◌}
-use lib.ListN.{length}
+use Rattle.std.proofs.Common.{◌≡◌, ◌-◌, length}
 use Rattle.test_damage.proofs.items.fill.Given as goal
 
 abbrev pub invariant-loop-i : goal.invariant-loop-i

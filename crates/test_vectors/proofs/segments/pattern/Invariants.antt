@@ -1,9 +1,5 @@
 -- `pattern`: the array is filled to its end.
-use borrow.Author.Rules.{rules}
-use mathlib.Core.Path.{◌≡◌}
-use Prim.Native.Nat.{◌-◌, ◌≤◌}
-use mathlib.Core.Path.{◌≡◌}
-use lib.ListN.{length}
+use Rattle.std.proofs.Common.{◌≡◌, ◌-◌, ◌≤◌, length}
 use Rattle.test_vectors.proofs.segments.pattern.Given as goal
 
 abbrev pub invariant-loop-i : goal.invariant-loop-i
