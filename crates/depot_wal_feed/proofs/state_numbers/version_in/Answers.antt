@@ -1,7 +1,7 @@
 -- `version_in` tests the number as the definition does.
 use borrow.Author.Rules.{rules}
 use borrow.Author.Tests.{eq-eqb, ne_eqb}
-use Rattle.depot_wal_feed.proofs.numbers.version_in.Goals as goal
+use Rattle.depot_wal_feed.proofs.state_numbers.version_in.Goals as goal
 
 pub returns-then-state-eq2 : goal.returns-then-state-eq2
 returns-then-state-eq2 c = rw (eq-eqb _ _ c.if-state-eq2.true)

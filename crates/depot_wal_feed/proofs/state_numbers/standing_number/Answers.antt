@@ -2,7 +2,7 @@
 use borrow.Author.Rules.{rules}
 use native.Mathlib.Omega.{arith}
 use mathlib.Core.Path.{refl}
-use Rattle.depot_wal_feed.proofs.numbers.standing_number.Goals as goal
+use Rattle.depot_wal_feed.proofs.state_numbers.standing_number.Goals as goal
 
 pub returns-in-Clear : goal.returns-in-Clear
 returns-in-Clear c = rw c.in-Clear.is (refl, omega arith)

@@ -1,6 +1,6 @@
 -- `put_count` meets its contract, by the kind.
 use Rattle.body_builder_histogram.proofs.Fields.{whole-count, float_count}
-use Rattle.body_builder_histogram.proofs.numbers.put_count.Goals as goal
+use Rattle.body_builder_histogram.proofs.front_numbers.put_count.Goals as goal
 
 pub returns-in-Whole : goal.returns-in-Whole
 returns-in-Whole c = record { value = rw (← whole-count _ _ c.in-Whole.is) c.put_uvarint.ensures.value; buffer_after = rw (← whole-count _ _ c.in-Whole.is) c.put_uvarint.ensures.buf_after }

@@ -1,7 +1,7 @@
 -- `marks_of` adds up as the definition does.
 use borrow.Author.Rules.{rules}
 use Rattle.depot_wal_feed.specs.Numbers.{marks}
-use Rattle.depot_wal_feed.proofs.numbers.marks_of.Goals as goal
+use Rattle.depot_wal_feed.proofs.state_numbers.marks_of.Goals as goal
 
 pub returns : goal.returns
 unfolding marks

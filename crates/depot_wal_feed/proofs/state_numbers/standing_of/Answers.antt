@@ -1,7 +1,7 @@
 -- `standing_of` gives the refusal of each number.
 use borrow.Author.Tests.{ne_eqb}
 use Rattle.depot_wal_feed.specs.Numbers.{standing_of}
-use Rattle.depot_wal_feed.proofs.numbers.standing_of.Goals as goal
+use Rattle.depot_wal_feed.proofs.state_numbers.standing_of.Goals as goal
 
 pub returns-in-3 : goal.returns-in-3
 unfolding standing_of

@@ -4,7 +4,7 @@ use mathlib.Core.Path.{sym, ap, ◌∙◌}
 use lib.ListN.{length}
 use Rattle.big_endian.specs.FixedLaws.{length-be8}
 use Rattle.body_builder_histogram.proofs.Fields.{whole-count, float_count}
-use Rattle.body_builder_histogram.proofs.numbers.count_size.Goals as goal
+use Rattle.body_builder_histogram.proofs.front_numbers.count_size.Goals as goal
 
 pub returns-in-Whole : goal.returns-in-Whole
 returns-in-Whole c =

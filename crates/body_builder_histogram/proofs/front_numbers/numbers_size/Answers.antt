@@ -6,7 +6,7 @@ use mir.Facts.{to_z-of_z}
 use mir.Val.{SFits}
 use mir.Syntax.{w32, w64}
 use Rattle.body_builder_histogram.proofs.Fields.{length-numbers}
-use Rattle.body_builder_histogram.proofs.numbers.numbers_size.Goals as goal
+use Rattle.body_builder_histogram.proofs.front_numbers.numbers_size.Goals as goal
 
 pub returns : goal.returns
 returns c =

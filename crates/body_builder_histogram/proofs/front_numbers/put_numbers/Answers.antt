@@ -9,7 +9,7 @@ use mir.Val.{SFits}
 use mir.Syntax.{w32, w64}
 use Rattle.body_format.specs.Histograms.{numbers_bytes}
 use Rattle.body_builder_histogram.proofs.Fields.{hint-room, numbers-laid}
-use Rattle.body_builder_histogram.proofs.numbers.put_numbers.Goals as goal
+use Rattle.body_builder_histogram.proofs.front_numbers.put_numbers.Goals as goal
 
 pub bounds-buffer-at : goal.bounds-buffer-at
 bounds-buffer-at c = hint-room _ _ c.args.buffer.now _ c.requires

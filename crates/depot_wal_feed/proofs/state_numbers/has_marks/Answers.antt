@@ -2,7 +2,7 @@
 use borrow.Author.Rules.{rules}
 use mathlib.Core.Path.{sym}
 use Rattle.depot_wal_feed.specs.Laws.{clear-marked, low_unmarked, firm-marked, hollow_marked}
-use Rattle.depot_wal_feed.proofs.numbers.has_marks.Goals as goal
+use Rattle.depot_wal_feed.proofs.state_numbers.has_marks.Goals as goal
 
 pub returns-then-marks-lt8 : goal.returns-then-marks-lt8
 returns-then-marks-lt8 c = sym (clear-marked c.args.state.now c.if-marks-lt8.true)

@@ -8,7 +8,7 @@ use Rattle.feed_format.specs.declared.Standing.{Standing}
 use Rattle.feed_format.specs.Feeding.{state}
 use Rattle.feed_format.specs.Pairing.{good_feed}
 use Rattle.depot_wal_feed.specs.Numbers.{pair_of}
-use Rattle.depot_wal_feed.proofs.numbers.state_of.Goals as goal
+use Rattle.depot_wal_feed.proofs.state_numbers.state_of.Goals as goal
 
 pub returns : goal.returns
 returns c =

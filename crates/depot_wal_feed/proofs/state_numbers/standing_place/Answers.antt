@@ -2,7 +2,7 @@
 use borrow.Author.Rules.{rules}
 use mathlib.Core.Path.{ap}
 use Rattle.wal_types.specs.declared.Offset.{Offset}
-use Rattle.depot_wal_feed.proofs.numbers.standing_place.Goals as goal
+use Rattle.depot_wal_feed.proofs.state_numbers.standing_place.Goals as goal
 
 pub returns-in-Clear : goal.returns-in-Clear
 returns-in-Clear c = rw c.in-Clear.is

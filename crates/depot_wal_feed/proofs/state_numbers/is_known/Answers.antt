@@ -2,7 +2,7 @@
 use borrow.Author.Rules.{rules}
 use mathlib.Core.Path.{sym, ◌∙◌}
 use Rattle.depot_wal_feed.specs.Laws.{known-one, known_two, known-none}
-use Rattle.depot_wal_feed.proofs.numbers.is_known.Goals as goal
+use Rattle.depot_wal_feed.proofs.state_numbers.is_known.Goals as goal
 
 pub returns-then-number-eq1 : goal.returns-then-number-eq1
 returns-then-number-eq1 c = c.has_marks.ensures ∙ sym (known-one c.args.state.now c.if-number-eq1.true)
