@@ -1,5 +1,4 @@
 -- `refuse` meets its contract: the answer of a segment that is over when it is begun, or the number.
-use borrow.Author.Rules.{rules}
 use Rattle.reporting.proofs.Refusing.{over-answer, begun-answer}
 use Rattle.reporting.proofs.files.refuse.Goals as goal
 

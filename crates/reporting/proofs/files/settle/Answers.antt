@@ -1,6 +1,5 @@
 -- `settle` meets its contract: a segment's answer stays, and one that adds nothing is refused on the
 -- report that was before.
-use borrow.Author.Rules.{rules}
 use Rattle.reporting.proofs.Refusing.{settled_segment, settled_nothing}
 use Rattle.reporting.proofs.files.settle.Goals as goal
 

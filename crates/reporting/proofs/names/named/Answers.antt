@@ -1,5 +1,4 @@
 -- `named` meets its contract, by the version.
-use borrow.Author.Rules.{rules}
 use Rattle.reporting.proofs.Naming.{named-one, named_two}
 use Rattle.reporting.proofs.names.named.Goals as goal
 

@@ -1,10 +1,6 @@
 -- `part_start` meets its contract: what is behind the place has no `/`.
-use borrow.Author.Rules.{rules}
 use native.Mathlib.Omega.{arith}
-use mathlib.Core.Path.{◌≡◌, ◌∙◌}
-use Prim.Native.Nat.{◌≤◌}
-use lib.ListN.{length}
-use Rattle.reporting.specs.Paths.{after_slash}
+use mathlib.Core.Path.{◌∙◌}
 use Rattle.reporting.proofs.Naming.{slash_here, slash_before, slash_none}
 use Rattle.reporting.proofs.names.part_start.Goals as goal
 

@@ -1,5 +1,4 @@
 -- `version_in` meets its contract: the last part is parsed.
-use borrow.Author.Rules.{rules}
 use Rattle.reporting.proofs.Naming.{version_is}
 use Rattle.reporting.proofs.names.version_in.Goals as goal
 
