@@ -15,7 +15,6 @@ use names::version_in;
 use report_format::{NIGHT_LIMIT, Reported};
 use std::env::FillError;
 use std::io;
-use std::io::{BufWriter, Write};
 use std::rt::{Env, Files};
 use wal_types::VersionFound;
 
@@ -35,7 +34,7 @@ fn has_all(report: &[u64; 1284]) -> bool
 
 // Reports on the segments that the arguments name, in order; after an ended report nothing more is
 // read. The checksum's table is made once, for all of them.
-pub fn report<R: Env + Files + Print + Alloc>(rt: &R) -> io::Result<()>
+pub fn report<R: Env + Files + Print>(rt: &R) -> io::Result<()>
     ensures { IfOk result (λ x. x ≡ tt) }
 {
     let mut table = [0u32; 2048];
@@ -43,7 +42,7 @@ pub fn report<R: Env + Files + Print + Alloc>(rt: &R) -> io::Result<()>
     let mut report = [0u64; 1284];
     let mut page = [0u8; 32768];
     let mut buffer = [0u8; 65536];
-    let mut out = BufWriter::new(rt.alloc(), io::writer(rt))?;
+    let mut out = io::writer(rt);
     for position in 1..usize::MAX {
         if !goes_on(&report) {
             break;
@@ -54,8 +53,7 @@ pub fn report<R: Env + Files + Print + Alloc>(rt: &R) -> io::Result<()>
         };
         lines::segment(&mut out, position, answer)?;
     }
-    lines::all_series(&mut out, &report)?;
-    out.flush()
+    lines::all_series(&mut out, &report)
 }
 
 // Adds the segment that an argument names, if there is such an argument. The 1,025th is not looked

@@ -20,7 +20,7 @@ mod lines;
 use segment_cursor::Spot;
 use segment_format::{Good, ReadAnswer, WriteAnswer};
 use std::io;
-use std::io::{BufWriter, Write};
+use std::io::Write;
 use wal_types::{Offset, Version};
 
 const RECORDS: usize = 8;
@@ -33,15 +33,14 @@ const READS: usize = 10;
 const CUT: usize = 100000;
 
 fn main(rt: HostRuntime) -> io::Result<()> {
-    let mut out = BufWriter::new(rt.alloc(), io::writer(&rt))?;
+    let mut out = io::writer(&rt);
     let mut bytes = [0u8; 65536];
     count_up(&mut bytes);
     let mut segment = [0u8; 131072];
     write_records(&mut segment, &bytes);
     let mut buffer = [0u8; 65536];
     read_records(&mut out, &segment, &mut buffer)?;
-    read_cut(&mut out, &segment, CUT, &mut buffer)?;
-    out.flush()
+    read_cut(&mut out, &segment, CUT, &mut buffer)
 }
 
 // Byte i becomes i modulo 256.

@@ -12,24 +12,22 @@ use full_read::read_full;
 use items::{Count, SEGMENT_MAX};
 use print::text;
 use std::io;
-use std::io::{BufWriter, Write};
+use std::io::Write;
 
 fn main(rt: HostRuntime) -> io::Result<()> {
     let mut table = [0u8; 32768];
     let mut segment = [0u8; SEGMENT_MAX];
     let mut input = rt.reader();
-    let mut out = BufWriter::new(rt.alloc(), io::writer(&rt))?;
+    let mut out = io::writer(&rt);
     let (got, ended) = read_full(&mut input, &mut table);
     ended?;
     // Whether more bytes follow: the segment is unused until the first case.
     let (more, ended) = read_full(&mut input, &mut segment);
     ended?;
     if 0 < more {
-        text(&mut out, b"the table is too long\n")?;
-        return out.flush();
+        return text(&mut out, b"the table is too long\n");
     }
-    answer_cases(&mut out, &table[..got], &mut segment)?;
-    out.flush()
+    answer_cases(&mut out, &table[..got], &mut segment)
 }
 
 // Every line that is no comment. A line is taken with its newline.

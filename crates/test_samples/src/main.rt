@@ -14,17 +14,16 @@ mod lines;
 mod list;
 
 use std::io;
-use std::io::{BufWriter, Write};
+use std::io::Write;
 
 fn main(rt: HostRuntime) -> io::Result<()> {
-    let mut out = BufWriter::new(rt.alloc(), io::writer(&rt))?;
+    let mut out = io::writer(&rt);
     types(&mut out)?;
     switches(&mut out)?;
     deltas(&mut out)?;
     rows(&mut out)?;
     others(&mut out)?;
-    long_and_cut(&mut out)?;
-    out.flush()
+    long_and_cut(&mut out)
 }
 
 // No byte; an unknown type; a series body; a samples body without an entry; one that ends before

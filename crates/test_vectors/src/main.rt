@@ -6,16 +6,14 @@ mod fields;
 mod segments;
 
 use std::io;
-use std::io::{BufWriter, Write};
 
 fn main(rt: HostRuntime) -> io::Result<()> {
-    let mut out = BufWriter::new(rt.alloc(), io::writer(&rt))?;
+    let mut out = io::writer(&rt);
     fields::checksums(&mut out)?;
     fields::uvarints(&mut out)?;
     fields::varints(&mut out)?;
     fields::readings(&mut out)?;
     segments::writes(&mut out)?;
     segments::types(&mut out)?;
-    segments::cuts(&mut out)?;
-    out.flush()
+    segments::cuts(&mut out)
 }
