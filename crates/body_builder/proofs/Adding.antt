@@ -10,7 +10,7 @@ use lib.ListN.{length}
 use Rattle.wal_types.specs.declared.Refusal.TheVariants.{BadPlace, TooLong, NoRoom, BadList, WrongKind}
 use Rattle.wal_types.specs.Terms.{offset}
 use Rattle.body_format.specs.Building.{bad_state}
-use Rattle.body_format.specs.Laws.Additions.{state-past}
+use Rattle.body_format.proofs.Laws.Additions.{state-past}
 use Rattle.body_builder.specs.declared.admission.Gate.TheVariants.{Open, Shut}
 use Rattle.body_builder.specs.Sizes.{gate_for, decided}
 

@@ -1,7 +1,7 @@
 -- The caller's strings written one after another, each after its length.
 use mathlib.Core.Path.{◌≡◌, refl, sym, ap, ap₂, ◌∙◌}
 use mathlib.Core.List.{List, [], ◌∷◌, ◌++◌}
-use Prim.Native.Nat.{ℕ, ◌+◌, ◌-◌, ◌/◌, ◌≤◌, ◌<◌}
+use Prim.Native.Nat.{ℕ, ◌+◌, ◌/◌, ◌≤◌, ◌<◌}
 use native.Mathlib.Omega.{arith}
 use lib.ListN.{length, get_or, take, drop, set, length-set, drop_of_length-le, length-append}
 use lib.Seq.{sets, length-sets}
@@ -9,7 +9,7 @@ use Rattle.byte_copy.specs.CopiedLaws.{sets-append, part_length}
 use Rattle.byte_copy.specs.Put.{put_at, put_end}
 use Rattle.uvarint.specs.Uvarint.{uvarint}
 use Rattle.body_format.specs.Building.{string_bytes, strings_bytes, string_list_bytes, cut_strings, total}
-use Rattle.body_format.specs.Laws.Strings.{length_cut, cut_step, total-step}
+use Rattle.body_format.proofs.Laws.Strings.{length_cut, cut_step, total-step}
 use Rattle.body_builder.specs.Laws.Putting.{Put, put_first, room_then, put_then}
 
 -- the strings from number i on, whose bytes start at `from`

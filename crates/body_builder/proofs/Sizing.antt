@@ -2,7 +2,7 @@
 use mathlib.Core.Path.{◌≡◌, refl, sym, ap, ap₂, ◌∙◌}
 use mathlib.Core.Bool.{Bool, true, false, cond, ◌||◌, not}
 use mathlib.Core.List.{List, [], ◌∷◌, ◌++◌}
-use Prim.Native.Nat.{ℕ, suc, ◌+◌, ◌-◌, ◌/◌, ◌%◌, ◌≤◌, ◌<◌}
+use Prim.Native.Nat.{ℕ, suc, ◌+◌, ◌/◌, ◌%◌, ◌≤◌, ◌<◌}
 use native.Mathlib.Omega.{arith}
 use native.Mathlib.Numerals.{add-one}
 use borrow.Author.Tests.{ltb-true, eq-eqb, ne_eqb, eqb-true, eqb-false}
@@ -20,9 +20,9 @@ use Rattle.big_endian.specs.FixedLaws.{length-be8}
 use Rattle.body_format.specs.Entries.{series_entry, exemplar_entry, metadata_entry}
 use Rattle.body_format.specs.Building.{strings_bytes, string_list_bytes, cut_strings, total, bad_list, row_bytes, entry_bytes}
 use Rattle.body_format.specs.Heads.{delta_bytes}
-use Rattle.body_format.specs.Laws.Fields.{length-list}
-use Rattle.body_format.specs.Laws.Heads.{delta_bytes_lem}
-use Rattle.body_format.specs.Laws.Strings.{length_cut, length-cut-strings, row_first, row-later, length-row-first, length-row-later, length-series, length_exemplar, length_metadata}
+use Rattle.body_format.proofs.Laws.Fields.{length-list}
+use Rattle.body_format.proofs.Laws.Heads.{delta_bytes_lem}
+use Rattle.body_format.proofs.Laws.Strings.{length_cut, length-cut-strings, row_first, row-later, length-row-first, length-row-later, length-series, length_exemplar, length_metadata}
 use Rattle.body_builder.specs.declared.admission.Deltas.{Deltas}
 use Rattle.body_builder.specs.Sizes.{row_size, row_tail, deltas_in, zigzags_of, heads, list_size}
 use Rattle.body_builder.specs.Laws.Putting.{Put, put_last, put_first, room_then, put_then}

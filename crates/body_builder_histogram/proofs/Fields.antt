@@ -19,7 +19,7 @@ use Rattle.body_format.specs.declared.BucketKind.TheVariants.{Whole, Float}
 use Rattle.body_format.specs.declared.Numbers.{Numbers}
 use Rattle.body_format.specs.Heads.{delta_bytes, head_bytes}
 use Rattle.body_format.specs.Histograms.{count_bytes, bucket_bytes, numbers_bytes, span_bytes}
-use Rattle.body_format.specs.Laws.Heads.{delta_bytes_lem, head_first, head-later}
+use Rattle.body_format.proofs.Laws.Heads.{delta_bytes_lem, head_first, head-later}
 use Rattle.body_builder.specs.declared.admission.Deltas.{Deltas}
 use Rattle.body_builder.specs.Sizes.{deltas_in, zigzags_of}
 use Rattle.body_builder.specs.Laws.Putting.{Put, put_last, put_first, room_then, put_then}

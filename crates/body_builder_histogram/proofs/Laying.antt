@@ -15,7 +15,7 @@ use Rattle.byte_copy.specs.Put.{put_at, put_end}
 use Rattle.uvarint.specs.Uvarint.{uvarint}
 use Rattle.body_format.specs.declared.Element.{Element}
 use Rattle.body_format.specs.Histograms.{Item, item_bytes, items_bytes, list_bytes, LentSpans, join_spans, bad_spans}
-use Rattle.body_format.specs.Laws.Histograms.{length-items, count-items, length-items-list}
+use Rattle.body_format.proofs.Laws.Histograms.{length-items, count-items, length-items-list}
 use Rattle.body_builder.specs.Laws.Putting.{Put, put_first, room_then, put_then}
 use Rattle.body_builder.specs.Laws.Additions.{Sized, exact, above}
 use Rattle.body_builder_histogram.specs.Lent.{span_of}

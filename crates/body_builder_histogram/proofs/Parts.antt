@@ -13,7 +13,7 @@ use Rattle.body_format.specs.declared.Element.{Element}
 use Rattle.body_format.specs.declared.Element.TheVariants as element
 use Rattle.body_format.specs.Heads.{head_bytes}
 use Rattle.body_format.specs.Histograms.{Span, Item, list_bytes, Sides, sides_bytes, Lists, lists_bytes, numbers_bytes, Histogram, histogram_bytes}
-use Rattle.body_format.specs.Laws.Histograms.{length-sides, length-lists, length-histogram}
+use Rattle.body_format.proofs.Laws.Histograms.{length-sides, length-lists, length-histogram}
 use Rattle.body_builder.specs.Laws.Putting.{Put, room_then, put_then}
 use Rattle.body_builder.specs.Laws.Additions.{Sized, exact, both_sized}
 use Rattle.body_builder_histogram.specs.Front.{front_bytes}

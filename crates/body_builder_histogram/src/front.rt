@@ -5,8 +5,8 @@ ghost use Rattle.wal_types.specs.Deltas.{to_bits};
 ghost use Rattle.byte_copy.specs.Put.{put_at, put_end};
 ghost use Rattle.body_builder_histogram.specs.Front.{front_bytes};
 
+use crate::front_numbers::{numbers_size, put_numbers};
 use crate::heads::{head_size, put_head};
-use crate::numbers::{numbers_size, put_numbers};
 use body_builder::admission::{deltas_of, zigzags};
 use body_format::{BucketKind, Numbers};
 use wal_types::{SeriesId, Timestamp};

@@ -5,9 +5,9 @@
 
 pub mod buckets;
 pub mod front;
+mod front_numbers;
 mod heads;
 mod lists;
-mod numbers;
 pub mod spans;
 
 ghost use Rattle.std.specs.Prelude.{◌≡◌, ◌+◌, ◌≤◌, length};
@@ -23,9 +23,9 @@ ghost use Rattle.body_builder_histogram.specs.Lent.{lent, histogram_of, addition
 use body_builder::admission::{Deltas, Gate, admit, deltas_of, zigzags};
 use body_builder::{Added, Body};
 use body_format::{BucketKind, FLOAT_HISTOGRAMS, HISTOGRAMS, Numbers};
+use front_numbers::{numbers_size, put_numbers};
 use heads::{head_size, put_head};
 use lists::{lists_size, put_lists};
-use numbers::{numbers_size, put_numbers};
 use spans::sides_are_bad;
 use wal_types::{SeriesId, Timestamp};
 

@@ -7,7 +7,7 @@ ghost use Rattle.body_format.specs.Histograms.{span_bytes, join_spans, items_byt
 ghost use Rattle.body_builder.specs.Laws.Additions.{Sized};
 ghost use Rattle.body_builder_histogram.specs.Lent.{sides, span_of, lent_spans};
 
-use crate::numbers::wide;
+use crate::front_numbers::wide;
 use wal_types::RECORD_LIMIT;
 
 // BadList (FORMAT 10.5): not as many offsets as lengths.

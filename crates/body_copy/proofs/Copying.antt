@@ -14,8 +14,8 @@ use Rattle.byte_copy.specs.Put.{put_at, put_end}
 use Rattle.uvarint.specs.Uvarint.{uvarint}
 use Rattle.body_format.specs.Fields.{Field, got, fault, StringField, string_at, strings_at}
 use Rattle.body_format.specs.Building.{string_bytes, strings_bytes, string_list_bytes}
-use Rattle.body_format.specs.Laws.Fields.{length-string, length-strings}
-use Rattle.body_format.specs.Laws.Bounds.{Every, every_then, of_got}
+use Rattle.body_format.proofs.Laws.Fields.{length-string, length-strings}
+use Rattle.body_format.proofs.Laws.Bounds.{Every, every_then, of_got}
 use Rattle.body_builder.specs.Laws.Putting.{Put, put_first, room_then, put_then}
 use Rattle.body_copy.specs.declared.strings.Taken.{Taken}
 use Rattle.body_copy.specs.declared.strings.Taken.TheVariants as size

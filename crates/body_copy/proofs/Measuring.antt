@@ -18,8 +18,8 @@ use Rattle.uvarint.specs.Uvarint.{uvarint, read_uvarint}
 use Rattle.uvarint.specs.UvarintLaws.{taken}
 use Rattle.body_format.specs.Fields.{Field, got, fault, and_then, StringField, uvarint_of, uvarint_at, string_at, strings_at}
 use Rattle.body_format.specs.Building.{string_bytes, strings_bytes}
-use Rattle.body_format.specs.Laws.Fields.{length-string, length-strings}
-use Rattle.body_format.specs.Laws.Bounds.{Every, every_then, of_got}
+use Rattle.body_format.proofs.Laws.Fields.{length-string, length-strings}
+use Rattle.body_format.proofs.Laws.Bounds.{Every, every_then, of_got}
 use Rattle.body_copy.specs.declared.strings.Measured.{Measured}
 use Rattle.body_copy.specs.declared.strings.Measured.TheVariants as measured
 use Rattle.body_copy.specs.declared.strings.Taken.TheVariants as size

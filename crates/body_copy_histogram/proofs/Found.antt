@@ -23,8 +23,8 @@ use Rattle.body_format.specs.Histograms.{Span, Item, item_at, items_at, items_by
 use Rattle.body_format.specs.Entries.{histograms, type_byte, Entry, histogram_entry, body_type_for, Placed, histogram_entry_at, entry_at}
 use Rattle.body_format.specs.Reading.{entry_place, list_view, sides_view, histogram_view, answer_histogram, histogram_there}
 use Rattle.body_format.specs.Building.{entry_bytes, add, add_bytes}
-use Rattle.body_format.specs.Laws.Bounds.{Every, every_then, of_got}
-use Rattle.body_format.specs.Laws.Histograms.{items-counted}
+use Rattle.body_format.proofs.Laws.Bounds.{Every, every_then, of_got}
+use Rattle.body_format.proofs.Laws.Histograms.{items-counted}
 use Rattle.body_fields.specs.Laws.{never}
 use Rattle.body_builder.specs.declared.Added.TheVariants.{Refused}
 use Rattle.body_builder.specs.Answers.{added_of}

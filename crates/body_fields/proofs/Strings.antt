@@ -8,8 +8,8 @@ use lib.ListN.{length, drop, length-drop}
 use lib.Seq.{length-take-le}
 use Rattle.wal_types.specs.declared.Refusal.{Refusal}
 use Rattle.body_format.specs.Fields.{Field, got, fault, and_then, StringField, uvarint_at, string_at, strings_at, string_list_at}
-use Rattle.body_format.specs.Laws.Fields.{string-got}
-use Rattle.body_format.specs.Laws.Bounds.{of_got, uvarint_ahead, strings_ahead}
+use Rattle.body_format.proofs.Laws.Fields.{string-got}
+use Rattle.body_format.proofs.Laws.Bounds.{of_got, uvarint_ahead, strings_ahead}
 use Rattle.body_fields.specs.declared.StringRead.TheVariants as string
 use Rattle.body_fields.specs.declared.StringListRead.{StringListRead}
 use Rattle.body_fields.specs.declared.StringListRead.TheVariants as list

@@ -11,7 +11,7 @@ use Rattle.uvarint.specs.Uvarint.{read_uvarint, read_groups}
 use Rattle.varint.specs.Varint.{read_varint}
 use Rattle.varint.specs.VarintLaws.{taken-varint}
 use Rattle.body_format.specs.Fields.{Field, got, fault, StringField, StringList, uvarint_at, varint_of, varint_at}
-use Rattle.body_format.specs.Laws.Fields.{uvarint-got}
+use Rattle.body_format.proofs.Laws.Fields.{uvarint-got}
 use Rattle.body_fields.specs.declared.NumberRead.{NumberRead}
 use Rattle.body_fields.specs.declared.NumberRead.TheVariants as number
 use Rattle.body_fields.specs.declared.SignedRead.{SignedRead}

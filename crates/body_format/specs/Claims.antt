@@ -9,7 +9,7 @@ use Rattle.body_format.specs.declared.Numbers.{Numbers}
 use Rattle.body_format.specs.declared.Element.{Element}
 use Rattle.body_format.specs.declared.Element.TheVariants as element
 use Rattle.body_format.specs.Fields.{got}
-use Rattle.body_format.specs.Histograms.{Span, Item, Sides}
+use Rattle.body_format.specs.Histograms.{Item, Sides}
 use Rattle.body_format.specs.Entries.{BodyType, known, body_type_of, Entry, entries}
 use Rattle.body_format.specs.Reading.{check_body, read_entry, read_string, read_histogram, read_span, read_bucket}
 use Rattle.body_format.specs.Building.{used, refused, start}

@@ -6,6 +6,3 @@ pub mod Reading
 pub mod Building
 pub mod Calls
 pub mod Claims
-pub mod Laws
-pub mod Theorems
-pub mod StandIns

@@ -21,7 +21,7 @@ use Rattle.body_format.specs.Heads.{Head, head_at}
 use Rattle.body_format.specs.Histograms.{int32_at, count_at, Span, Listed, numbers_at, Lists, lists_at, Histogram, histogram_at, bare, firsts}
 use Rattle.body_format.specs.Entries.{histograms, type_byte, histogram_entry, Placed, histogram_entry_at}
 use Rattle.body_format.specs.Reading.{entry_place, answer_entry, entry_there, histogram_view, answer_histogram, histogram_there}
-use Rattle.body_format.specs.Laws.Fields.{byte_got, byte_short}
+use Rattle.body_format.proofs.Laws.Fields.{byte_got, byte_short}
 use Rattle.body_fields.specs.declared.Place.TheVariants.{At, Fault}
 use Rattle.body_fields.specs.Ends.{end_of}
 use Rattle.body_fields.specs.Laws.{never}

@@ -21,7 +21,7 @@ use Rattle.body_format.specs.Fields.{Field, got, fault, and_then, fixed_at, uvar
 use Rattle.body_format.specs.Heads.{delta_at}
 use Rattle.body_format.specs.Histograms.{int32_at, uint32_at, count_at, bucket_at, span_at}
 use Rattle.body_format.specs.Reading.{answer_span, answer_bucket}
-use Rattle.body_format.specs.Laws.Heads.{varint-uvarint, delta_got, delta_fault}
+use Rattle.body_format.proofs.Laws.Heads.{varint-uvarint, delta_got, delta_fault}
 use Rattle.body_fields.specs.Readings.{number_read}
 use Rattle.body_fields.specs.Laws.{never}
 use Rattle.body_histogram.specs.declared.fields.Int32Read.{Int32Read}

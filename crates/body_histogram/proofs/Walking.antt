@@ -19,7 +19,7 @@ use Rattle.body_format.specs.declared.SpanAnswer.TheVariants as span
 use Rattle.body_format.specs.Fields.{Field, got, fault, and_then, uvarint_at, fixed_at}
 use Rattle.body_format.specs.Histograms.{bucket_at, Span, span_at, Item, item_at, items_at, Listed, list_at, Sides, sides_at, lists_at}
 use Rattle.body_format.specs.Reading.{list_view, answer_span}
-use Rattle.body_format.specs.Laws.Histograms.{items-counted}
+use Rattle.body_format.proofs.Laws.Histograms.{items-counted}
 use Rattle.body_fields.specs.declared.Place.{Place}
 use Rattle.body_fields.specs.declared.Place.TheVariants.{At, Fault}
 use Rattle.body_fields.specs.Ends.{end_of, onward}

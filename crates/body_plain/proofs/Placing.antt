@@ -10,7 +10,7 @@ use lib.Dec.{eqb}
 use lib.ListN.{length}
 use Rattle.body_format.specs.Entries.{BodyType, has_rows, first_at}
 use Rattle.body_format.specs.Reading.{place_or_end, first_place, entry_place}
-use Rattle.body_format.specs.Laws.Places.{known-first, known-later}
+use Rattle.body_format.proofs.Laws.Places.{known-first, known-later}
 use Rattle.body_fields.specs.Laws.{never}
 
 pub plain_here : (k : BodyType) (s : List ℕ) (p : ℕ) → has_rows k ≡ false → 0 < p → p ≤ length s

@@ -15,9 +15,9 @@ use Rattle.body_format.specs.declared.StringAnswer.TheVariants.{Found as StringF
 use Rattle.body_format.specs.Fields.{Field, got, fault, and_then, StringField}
 use Rattle.body_format.specs.Entries.{BodyType, samples, Entry, Placed, has_rows, entry_at, entries_from, first_at, entries, known}
 use Rattle.body_format.specs.Reading.{check_fields, check_known, check_body, answer_string}
-use Rattle.body_format.specs.Laws.Bounds.{of_got, entry_ahead}
-use Rattle.body_format.specs.Laws.Fields.{fixed_short}
-use Rattle.body_format.specs.Laws.Lists.{entries-end, entries_suc, first_bounds}
+use Rattle.body_format.proofs.Laws.Bounds.{of_got, entry_ahead}
+use Rattle.body_format.proofs.Laws.Fields.{fixed_short}
+use Rattle.body_format.proofs.Laws.Lists.{entries-end, entries_suc, first_bounds}
 use Rattle.body_fields.specs.declared.Place.{Place}
 use Rattle.body_fields.specs.declared.Place.TheVariants.{At, Fault}
 use Rattle.body_fields.specs.Ends.{end_of}

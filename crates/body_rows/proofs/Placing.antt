@@ -15,9 +15,9 @@ use Rattle.body_format.specs.declared.EntryPlace.TheVariants.{End, Refused}
 use Rattle.body_format.specs.Fields.{fault}
 use Rattle.body_format.specs.Entries.{BodyType, has_rows, first_at}
 use Rattle.body_format.specs.Reading.{place_or_end, first_place, entry_place}
-use Rattle.body_format.specs.Laws.Fields.{fixed_got, fixed_short}
-use Rattle.body_format.specs.Laws.Lists.{first_rows, first_one}
-use Rattle.body_format.specs.Laws.Places.{place_end, bad_zero, bad-past, bad_among, known-first, known-later}
+use Rattle.body_format.proofs.Laws.Fields.{fixed_got, fixed_short}
+use Rattle.body_format.proofs.Laws.Lists.{first_rows, first_one}
+use Rattle.body_format.proofs.Laws.Places.{place_end, bad_zero, bad-past, bad_among, known-first, known-later}
 use Rattle.body_rows.specs.Forms.{row_place}
 
 -- ---- where rows begin: the first id ends too early, or the first timestamp

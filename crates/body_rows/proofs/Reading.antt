@@ -13,7 +13,7 @@ use Rattle.varint.specs.Varint.{unzigzag}
 use Rattle.body_format.specs.declared.EntryAnswer.TheVariants.{Found, Refused}
 use Rattle.body_format.specs.Fields.{Field, got, fault, StringList, fixed_at, uvarint_at, string_list_at}
 use Rattle.body_format.specs.Heads.{head_at}
-use Rattle.body_format.specs.Laws.Heads.{delta_got, delta_fault}
+use Rattle.body_format.proofs.Laws.Heads.{delta_got, delta_fault}
 use Rattle.body_format.specs.Entries.{Row, row_at, sample_at, exemplar_at, entry_at}
 use Rattle.body_format.specs.Reading.{answer_entry}
 use Rattle.body_fields.specs.Readings.{string_list_read}

@@ -11,7 +11,7 @@ use Rattle.big_endian.specs.Fixed.{read_be8}
 use Rattle.wal_types.specs.declared.SeriesId.{SeriesId}
 use Rattle.wal_types.specs.declared.Timestamp.{Timestamp}
 use Rattle.body_format.specs.Heads.{head_at}
-use Rattle.body_format.specs.Laws.Heads.{delta_got}
+use Rattle.body_format.proofs.Laws.Heads.{delta_got}
 use Rattle.body_format.specs.Entries.{row_at}
 use Rattle.body_fields.specs.declared.Place.TheVariants.{At}
 use Rattle.body_fields.specs.Ends.{end_of}

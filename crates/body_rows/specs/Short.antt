@@ -4,7 +4,7 @@ use Rattle.std.specs.Prelude.{◌≡◌, refl, Bool, true, false, ◌&&◌, List
 use Rattle.std.proofs.Common.{◌∙◌, arith, ltb-true, leb-true}
 use Rattle.big_endian.specs.Fixed.{read_be8}
 use Rattle.body_format.specs.Fields.{got, uvarint_at, fixed_at}
-use Rattle.body_format.specs.Laws.Fields.{place_same, fixed_got}
+use Rattle.body_format.proofs.Laws.Fields.{place_same, fixed_got}
 use Rattle.body_fields.specs.Laws.{never, uvarint-one}
 use Rattle.body_rows.specs.Forms.{is_short_row}
 

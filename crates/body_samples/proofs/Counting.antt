@@ -13,7 +13,7 @@ use Rattle.body_format.specs.declared.CheckAnswer.TheVariants.{Entries, Refused 
 use Rattle.body_format.specs.Fields.{Field, got, fault}
 use Rattle.body_format.specs.Entries.{BodyType, known, type_byte, body_type_of, samples, Entry}
 use Rattle.body_format.specs.Reading.{check_fields, check_body}
-use Rattle.body_format.specs.Laws.Types.{type_known, type_unknown}
+use Rattle.body_format.proofs.Laws.Types.{type_known, type_unknown}
 use Rattle.body_samples.specs.declared.FillAnswer.TheVariants.{Filled, Refused}
 use Rattle.body_samples.specs.Filling.{samples_known, samples_in, fill_answer}
 use Rattle.body_samples.specs.Rows.{fill_count}

@@ -1,6 +1,6 @@
 -- The loop that fills the list: the rows that are left make of it what all rows are to make of it.
 -- Assumes nothing.
-use Rattle.std.specs.Prelude.{◌≡◌, refl, List, ℕ, suc, ◌+◌, ◌-◌, ◌≤◌, ◌<◌, length, set}
+use Rattle.std.specs.Prelude.{◌≡◌, List, ℕ, suc, ◌+◌, ◌-◌, ◌≤◌, ◌<◌, length, set}
 use Rattle.std.proofs.Common.{ap, ◌∙◌, arith, length-set}
 use Rattle.body_samples.specs.declared.Sample.{Sample}
 use Rattle.body_samples.specs.Rows.{row_at, fill_with}

@@ -18,7 +18,7 @@ use Rattle.body_format.specs.Entries.{Known, known, unknown, body_type_of, serie
 use Rattle.body_format.specs.Reading.{view, read_entry}
 use Rattle.body_format.specs.Calls.{body_calls, Walks}
 use Rattle.body_format.specs.Calls.Walks.{next, done}
-use Rattle.body_format.specs.Laws.Walks.{entries-walk}
+use Rattle.body_format.proofs.Laws.Walks.{entries-walk}
 use Rattle.body_samples.specs.declared.Sample.{Sample}
 use Rattle.body_samples.specs.declared.Row.{Row}
 use Rattle.body_samples.specs.Filling.{sample_of, samples_known, samples_in, list_after}

@@ -13,7 +13,7 @@ use Rattle.feed_format.specs.declared.GoodFeedRead.{GoodFeedRead}
 use Rattle.feed_format.specs.declared.PageAnswer.TheVariants.{Refused as PageRefused}
 use Rattle.feed_format.specs.declared.FeedAnswer.TheVariants.{Refused}
 use Rattle.feed_format.specs.Pairing.{good_feed_on, GoodGot, good_read_on}
-use Rattle.feed_format.specs.Laws.Pairs.{GoodHands, GoodSame, good-same}
+use Rattle.feed_format.proofs.Laws.Pairs.{GoodHands, GoodSame, good-same}
 use Rattle.depot_wal_feed.specs.Numbers.{stored, stored_place, pair_of, version_in, state_of, marked, known, page_out, read_code, read_out, page_call, feed_page, read_call, feed_read}
 
 -- ---- whether numbers are a state: their marks, then their version

@@ -4,7 +4,7 @@ ghost use Rattle.wal_types.specs.Versions.{version_of};
 ghost use Rattle.segment_format.specs.Sums.{version_sum};
 ghost use Rattle.depot_wal_feed.specs.Numbers.{page_code, page_out, read_code, read_out, feed_page, feed_read, start_code, start_numbers};
 
-use crate::numbers::{is_known, state_of, store, store_place, version_in, version_number};
+use crate::state_numbers::{is_known, state_of, store, store_place, version_in, version_number};
 use feed_format::{FeedAnswer, PageAnswer};
 use segment_format::Good;
 use wal_types::{Refusal, VersionFound, version_of};

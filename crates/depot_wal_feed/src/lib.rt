@@ -4,4 +4,4 @@
 #![tactic(auto)]
 
 mod calls;
-mod numbers;
+mod state_numbers;

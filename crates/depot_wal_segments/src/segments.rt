@@ -3,7 +3,7 @@ ghost use Rattle.std.specs.Prelude.{◌≡◌};
 ghost use Rattle.wal_types.specs.Versions.{version_of};
 ghost use Rattle.segment_format.specs.Calls.{writer};
 ghost use Rattle.segment_format.specs.Good.{good_after, good_reader};
-ghost use Rattle.segment_format.specs.Laws.Counted.{Counts};
+ghost use Rattle.segment_format.proofs.Laws.Counted.{Counts};
 ghost use Rattle.segment_format.specs.Sums.{version_sum, table_sum};
 ghost use Rattle.depot_wal_results.specs.Segments.{read_code, read_out, good_of, good_out, write_code, write_out, reader_for, writer_for};
 

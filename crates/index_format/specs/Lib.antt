@@ -1,7 +1,3 @@
 pub mod Index
 pub mod Calls
 pub mod Claims
-pub mod Laws
-pub mod Theorems
-pub mod Instances
-pub mod StandIns

@@ -1,7 +1,2 @@
 pub mod Size
 pub mod Claims
-pub mod Laws
-pub mod Theorems
-pub mod Instances
-pub mod StandIns
-pub mod Examples

@@ -1,4 +1,1 @@
 pub mod Apart
-pub mod Laws
-pub mod Theorems
-pub mod StandIns

@@ -23,7 +23,6 @@ put-halves d e f at middle end x h p q r s = (
   s ∙ ap₂ (λ (l : List ℕ) (m : ℕ). sets l m (be4 x)) q p
       ∙ sets-append (be4 (x / 2 ^ 32)) (be4 x) d at
       ∙ sym (put-fits d at (be8 x) h),
-
 )
 
 pub returns-then-buf-at : goal.returns-then-buf-at

@@ -7,7 +7,7 @@ use Rattle.wal_types.specs.declared.Refusal.TheVariants.{BadPlace, WrongKind}
 use Rattle.wal_types.specs.Terms.{offset}
 use Rattle.body_format.specs.Entries.{Entry, type_byte, body_type_for}
 use Rattle.body_format.specs.Building.{Outcome, used, refused, bad_state, add, add_bytes, entry_bytes}
-use Rattle.body_format.specs.Laws.Additions.{accepted}
+use Rattle.body_format.proofs.Laws.Additions.{accepted}
 use Rattle.body_builder.specs.declared.Added.TheVariants.{Next, Refused}
 use Rattle.body_builder.specs.declared.admission.Gate.{Gate}
 use Rattle.body_builder.specs.declared.admission.Gate.TheVariants.{Open, Shut}

@@ -1,14 +1,12 @@
 -- `add_histogram` meets its contract: the size, the gate, and then the puts.
-use borrow.Author.Rules.{rules}
 use native.Mathlib.Omega.{arith}
-use Prim.Native.Nat.{ℕ, ◌+◌}
+use Prim.Native.Nat.{◌+◌}
 use mathlib.Core.Path.{◌≡◌, ap, ◌∙◌}
-use mathlib.Core.Bool.{Bool, false, ◌||◌}
-use mathlib.Core.List.{List}
+use mathlib.Core.Bool.{false, ◌||◌}
 use lib.ListN.{length}
 use Rattle.wal_types.specs.Deltas.{to_bits}
-use Rattle.body_format.specs.Entries.{histograms, type_byte, histogram_entry, Entry}
-use Rattle.body_format.specs.Histograms.{Lists, LentSpans, bad_spans}
+use Rattle.body_format.specs.Entries.{histograms, type_byte, histogram_entry}
+use Rattle.body_format.specs.Histograms.{bad_spans}
 use Rattle.body_format.specs.Building.{entry_bytes}
 use Rattle.body_builder.specs.Sizes.{gate_for, decided, deltas_in, zigzags_of}
 use Rattle.body_builder.specs.Laws.Additions.{Sized, Opened, opened, shut, finished}

@@ -1,8 +1,4 @@
 -- `put_histogram` meets its contract: the head, the numbers, and then the lists.
-use borrow.Author.Rules.{rules}
-use Prim.Native.Nat.{ℕ}
-use mathlib.Core.List.{List}
-use Rattle.body_format.specs.Histograms.{Span, Histogram}
 use Rattle.body_builder_histogram.specs.Lent.{lent, histogram_of}
 use Rattle.body_builder_histogram.proofs.Parts.{head-room, numbers-room, lists-room, histogram-laid}
 use Rattle.body_builder_histogram.proofs.put_histogram.Goals as goal

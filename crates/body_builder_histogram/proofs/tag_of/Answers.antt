@@ -1,5 +1,4 @@
 -- `tag_of` meets its contract, by the kind.
-use borrow.Author.Rules.{rules}
 use mathlib.Core.Path.{sym, ap}
 use Rattle.body_format.specs.declared.BucketKind.{BucketKind}
 use Rattle.body_format.specs.Entries.{histograms, type_byte}

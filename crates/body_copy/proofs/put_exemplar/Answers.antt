@@ -1,7 +1,4 @@
 -- `put_exemplar` meets its contract: the row, and then the list.
-use borrow.Author.Rules.{rules}
-use Prim.Native.Nat.{ℕ}
-use mathlib.Core.List.{List}
 use Rattle.wal_types.specs.Deltas.{to_bits}
 use Rattle.body_format.specs.Building.{row_bytes}
 use Rattle.body_builder.specs.Laws.Putting.{Put, put_first, room_then, put_then}

@@ -1,7 +1,4 @@
 -- `put_series` meets its contract: the id, and then the list.
-use borrow.Author.Rules.{rules}
-use Prim.Native.Nat.{ℕ}
-use mathlib.Core.List.{List}
 use Rattle.big_endian.specs.Fixed.{be8}
 use Rattle.body_builder.specs.Laws.Putting.{Put, put_first, room_then, put_then}
 use Rattle.body_copy.specs.Forms.{list_from}

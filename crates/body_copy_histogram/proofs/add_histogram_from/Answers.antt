@@ -1,5 +1,4 @@
 -- `add_histogram_from` meets its contract: the histogram is there, or not.
-use borrow.Author.Rules.{rules}
 use mathlib.Core.Path.{sym, ap, ◌∙◌}
 use Rattle.body_builder.specs.Answers.{added_of}
 use Rattle.body_copy_histogram.proofs.Found.{taken, not_read, not_there}

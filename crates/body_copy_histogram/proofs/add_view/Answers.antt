@@ -1,5 +1,4 @@
 -- `add_view` meets its contract: the size, the gate, and then the puts.
-use borrow.Author.Rules.{rules}
 use native.Mathlib.Omega.{arith}
 use Prim.Native.Nat.{◌+◌}
 use lib.ListN.{length}

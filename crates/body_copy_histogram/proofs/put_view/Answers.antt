@@ -1,5 +1,4 @@
 -- `put_view` meets its contract: the front, and then the lists.
-use borrow.Author.Rules.{rules}
 use Rattle.body_copy_histogram.proofs.Parts.{view_parts, first-put, second-room, both_laid}
 use Rattle.body_copy_histogram.proofs.put_view.Goals as goal
 

@@ -1,8 +1,7 @@
 -- `byte_at` meets its contract.
-use borrow.Author.Rules.{rules}
 use native.Mathlib.Omega.{arith}
 use mathlib.Core.Path.{sym, ap}
-use Rattle.body_format.specs.Laws.Fields.{byte_got, byte_short}
+use Rattle.body_format.proofs.Laws.Fields.{byte_got, byte_short}
 use Rattle.body_fields.specs.Readings.{number_read}
 use Rattle.body_fields.proofs.byte_at.Goals as goal
 

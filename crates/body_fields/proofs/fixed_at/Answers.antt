@@ -1,9 +1,8 @@
 -- `fixed_at` meets its contract: eight bytes, if they are there.
-use borrow.Author.Rules.{rules}
 use native.Mathlib.Omega.{arith}
 use Prim.Native.Nat.{ℕ, ◌+◌}
 use mathlib.Core.Path.{sym, ap, ◌∙◌}
-use Rattle.body_format.specs.Laws.Fields.{fixed_got, fixed_short}
+use Rattle.body_format.proofs.Laws.Fields.{fixed_got, fixed_short}
 use Rattle.body_fields.specs.declared.NumberRead.TheVariants as number
 use Rattle.body_fields.specs.Readings.{number_read}
 use Rattle.body_fields.proofs.fixed_at.Goals as goal

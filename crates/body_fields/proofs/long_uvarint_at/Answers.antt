@@ -1,10 +1,9 @@
 -- `long_uvarint_at` meets its contract, by the three answers of `get_uvarint`.
-use borrow.Author.Rules.{rules}
 use native.Mathlib.Omega.{arith}
 use mathlib.Core.Path.{sym, ap, ◌∙◌}
 use lib.ListN.{length-drop}
 use Rattle.uvarint.specs.UvarintLaws.{taken}
-use Rattle.body_format.specs.Laws.Fields.{uvarint-got, uvarint-short, uvarint-bad}
+use Rattle.body_format.proofs.Laws.Fields.{uvarint-got, uvarint-short, uvarint-bad}
 use Rattle.body_fields.specs.Readings.{number_read}
 use Rattle.body_fields.proofs.long_uvarint_at.Goals as goal
 

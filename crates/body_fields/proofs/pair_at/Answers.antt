@@ -1,5 +1,4 @@
 -- `pair_at` meets its contract, string by string.
-use borrow.Author.Rules.{rules}
 use Rattle.body_fields.specs.Laws.{string-told, string_faulty}
 use Rattle.body_fields.proofs.Strings.{pair_1, pair_2, pair_all}
 use Rattle.body_fields.proofs.pair_at.Goals as goal

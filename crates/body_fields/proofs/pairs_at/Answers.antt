@@ -1,6 +1,5 @@
 -- `pairs_at` meets its contract. The loop's invariant: the strings so far and the pairs that are
 -- left make the whole list.
-use borrow.Author.Rules.{rules}
 use native.Mathlib.Omega.{arith}
 use Rattle.std.specs.Prelude.{◌≡◌, refl, List, ℕ, ◌<◌}
 use Rattle.body_format.specs.Fields.{strings_at}

@@ -1,10 +1,6 @@
 -- `pairs_at` meets its contract. The loop's invariant: the strings so far and the pairs that are
 -- left make the whole list.
-use borrow.Author.Rules.{rules}
-use native.Mathlib.Omega.{arith}
-use mathlib.Core.Path.{◌≡◌, refl, subst}
-use Rattle.body_fields.specs.declared.Place.TheVariants.{At}
-use Rattle.body_fields.proofs.Strings.{Pairs, pair_turn, pairs_done, PairTold}
+use Rattle.body_fields.proofs.Strings.{Pairs}
 use Rattle.body_fields.proofs.pairs_at.Given as goal
 
 abbrev pub invariant-loop-left : goal.invariant-loop-left

@@ -1,7 +1,6 @@
 -- `string_field_at` meets its contract: the length, and then its bytes, which are all there or not.
-use borrow.Author.Rules.{rules}
 use mathlib.Core.Path.{sym, ap}
-use Rattle.body_format.specs.Laws.Fields.{string-short, string-fault}
+use Rattle.body_format.proofs.Laws.Fields.{string-short, string-fault}
 use Rattle.body_fields.specs.Readings.{string_read}
 use Rattle.body_fields.specs.Laws.{number-got, number-fault}
 use Rattle.body_fields.proofs.Strings.{uvarint_inside, string-whole}

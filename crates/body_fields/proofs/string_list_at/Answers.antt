@@ -1,5 +1,4 @@
 -- `string_list_at` meets its contract: the count, and then its pairs.
-use borrow.Author.Rules.{rules}
 use mathlib.Core.Path.{◌∙◌}
 use Rattle.body_fields.specs.Laws.{number-got, number-fault}
 use Rattle.body_fields.proofs.Strings.{uvarint_inside, list_1, list_all}

@@ -1,5 +1,4 @@
 -- `uvarint_at` meets its contract: one byte, or any number of them.
-use borrow.Author.Rules.{rules}
 use native.Mathlib.Omega.{arith}
 use mathlib.Core.Path.{sym, ap}
 use Rattle.body_fields.specs.Readings.{number_read}

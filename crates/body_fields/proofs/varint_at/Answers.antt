@@ -1,5 +1,5 @@
 -- `varint_at` meets its contract, by the three answers of `get_varint`.
-use borrow.Author.Rules.{rules, sfits_of}
+use borrow.Author.Rules.{sfits_of}
 use native.Mathlib.Omega.{arith}
 use Prim.Native.Nat.{◌+◌}
 use mathlib.Core.Path.{sym, ap, ◌∙◌}
@@ -8,7 +8,7 @@ use lib.ListN.{length-drop}
 use mir.Syntax.{w64}
 use mir.Facts.{to_z-of_z}
 use Rattle.varint.specs.VarintLaws.{taken-varint}
-use Rattle.body_format.specs.Laws.Fields.{varint-got, varint-short, varint-bad}
+use Rattle.body_format.proofs.Laws.Fields.{varint-got, varint-short, varint-bad}
 use Rattle.body_fields.specs.declared.SignedRead.TheVariants as signed
 use Rattle.body_fields.specs.Readings.{signed_read}
 use Rattle.body_fields.proofs.varint_at.Goals as goal

@@ -1,5 +1,4 @@
 -- `as_entry` meets its contract: case by case.
-use borrow.Author.Rules.{rules}
 use mathlib.Core.Path.{sym, ap}
 use Rattle.body_histogram.specs.Forms.{as_entry}
 use Rattle.body_histogram.proofs.as_entry.Goals as goal

@@ -1,5 +1,4 @@
 -- `histogram_as_entry` meets its contract: as an entry it is what reading an entry answers.
-use borrow.Author.Rules.{rules}
 use mathlib.Core.Path.{ap, ◌∙◌}
 use Rattle.body_format.specs.Entries.{histograms}
 use Rattle.body_format.specs.Reading.{entry_place}

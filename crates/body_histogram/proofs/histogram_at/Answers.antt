@@ -1,5 +1,4 @@
 -- `histogram_at` meets its contract: head, numbers and lists.
-use borrow.Author.Rules.{rules}
 use Rattle.body_histogram.proofs.Chain.{head-got, head-fault, numbers-got, numbers-fault, lists-got, lists-fault}
 use Rattle.body_histogram.proofs.Chain.{histogram_1, histogram_2, histogram_3, histogram-all}
 use Rattle.body_histogram.proofs.histogram_at.Goals as goal

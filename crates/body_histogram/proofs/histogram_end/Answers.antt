@@ -1,5 +1,4 @@
 -- `histogram_end` meets its contract: after the histogram, or its fault.
-use borrow.Author.Rules.{rules}
 use Rattle.body_histogram.proofs.Chain.{found, stopped}
 use Rattle.body_histogram.proofs.histogram_end.Goals as goal
 

@@ -1,5 +1,4 @@
 -- `histogram_entry` meets its contract: where the entry of the place is, and then the histogram there.
-use borrow.Author.Rules.{rules}
 use mathlib.Core.Path.{refl, ◌∙◌}
 use Rattle.body_format.specs.Entries.{histograms}
 use Rattle.body_histogram.proofs.Chain.{found, stopped, there}

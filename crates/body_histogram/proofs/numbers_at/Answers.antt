@@ -1,5 +1,5 @@
 -- `numbers_at` meets its contract: three fields, and then the others.
-use borrow.Author.Rules.{rules, sfits_of}
+use borrow.Author.Rules.{sfits_of}
 use native.Mathlib.Omega.{arith}
 use mathlib.Core.Path.{ap, ◌∙◌}
 use lib.IntN.{ℤ}

@@ -1,5 +1,4 @@
 -- `metadata_at` meets its contract, field by field.
-use borrow.Author.Rules.{rules}
 use Rattle.body_fields.specs.Laws.{number-got, number-fault, list-got, list-fault}
 use Rattle.body_plain.proofs.Reading.{metadata_1, metadata_2, metadata_3, metadata_all}
 use Rattle.body_plain.proofs.metadata_at.Goals as goal

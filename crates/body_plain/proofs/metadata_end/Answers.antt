@@ -1,5 +1,4 @@
 -- `metadata_end` meets its contract: one field after the other.
-use borrow.Author.Rules.{rules}
 use Rattle.body_plain.proofs.Ending.{metadata_ends}
 use Rattle.body_plain.proofs.metadata_end.Goals as goal
 

@@ -1,5 +1,4 @@
 -- `plain_end` meets its contract: the end of an entry of the type.
-use borrow.Author.Rules.{rules}
 use Rattle.body_plain.proofs.plain_end.Goals as goal
 
 pub returns-in-Series : goal.returns-in-Series

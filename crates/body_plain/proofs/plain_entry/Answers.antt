@@ -1,5 +1,4 @@
 -- `plain_entry` meets its contract: a bad place, the end, or the entry of the type.
-use borrow.Author.Rules.{rules}
 use native.Mathlib.Omega.{arith}
 use Prim.Native.Nat.{ℕ}
 use mathlib.Core.Path.{◌≡◌, sym, ap, ◌∙◌}
@@ -8,7 +7,7 @@ use Rattle.wal_types.specs.Terms.{offset}
 use Rattle.body_format.specs.declared.EntryPlace.TheVariants.{At}
 use Rattle.body_format.specs.Entries.{entry_at}
 use Rattle.body_format.specs.Reading.{place_or_end, entry_place, answer_entry}
-use Rattle.body_format.specs.Laws.Places.{place_end, place-before, bad_zero, bad-past, entry-there}
+use Rattle.body_format.proofs.Laws.Places.{place_end, place-before, bad_zero, bad-past, entry-there}
 use Rattle.body_plain.specs.declared.PlainType.{PlainType}
 use Rattle.body_plain.specs.Plain.{plain_in}
 use Rattle.body_plain.specs.Laws.{plain-plain}

@@ -1,5 +1,4 @@
 -- `series_at` meets its contract, field by field.
-use borrow.Author.Rules.{rules}
 use Rattle.body_fields.specs.Laws.{number-got, number-fault, list-got, list-fault}
 use Rattle.body_plain.proofs.Reading.{series_1, series_2, series-all}
 use Rattle.body_plain.proofs.series_at.Goals as goal

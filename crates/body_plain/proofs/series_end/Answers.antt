@@ -1,5 +1,4 @@
 -- `series_end` meets its contract: one field after the other.
-use borrow.Author.Rules.{rules}
 use Rattle.body_plain.proofs.Ending.{series-ends}
 use Rattle.body_plain.proofs.series_end.Goals as goal
 

@@ -1,5 +1,5 @@
 -- `tombstone_at` meets its contract, field by field.
-use borrow.Author.Rules.{rules, sfits_of}
+use borrow.Author.Rules.{sfits_of}
 use mir.Syntax.{w64}
 use mir.Facts.{to_z-of_z}
 use Rattle.body_fields.specs.Laws.{number-got, number-fault, signed-got, signed-fault, varint-fits}

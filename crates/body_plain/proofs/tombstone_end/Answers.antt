@@ -1,5 +1,4 @@
 -- `tombstone_end` meets its contract: one field after the other.
-use borrow.Author.Rules.{rules}
 use Rattle.body_plain.proofs.Ending.{tombstone-ends}
 use Rattle.body_plain.proofs.tombstone_end.Goals as goal
 

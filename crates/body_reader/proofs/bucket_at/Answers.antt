@@ -1,5 +1,4 @@
 -- `bucket_at` meets its contract: the kind, the place, and then the bucket.
-use borrow.Author.Rules.{rules}
 use Prim.Native.Nat.{ℕ}
 use mathlib.Core.Path.{◌≡◌, sym, ◌∙◌}
 use mathlib.Core.Bool.{true, false, cond, ◌||◌}

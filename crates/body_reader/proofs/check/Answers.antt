@@ -1,5 +1,4 @@
 -- `check` meets its contract: its type, where its entries begin, and their number.
-use borrow.Author.Rules.{rules}
 use Prim.Native.Nat.{ℕ}
 use mathlib.Core.Path.{◌≡◌, sym, ap, ◌∙◌}
 use mathlib.Core.List.{List}

@@ -1,5 +1,4 @@
 -- `entry_at` meets its contract: its type, and then the entry of a body with rows or without.
-use borrow.Author.Rules.{rules}
 use Prim.Native.Nat.{ℕ}
 use mathlib.Core.Path.{◌≡◌, sym, ap, ◌∙◌}
 use mathlib.Core.List.{List}

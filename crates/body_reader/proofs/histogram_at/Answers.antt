@@ -1,5 +1,4 @@
 -- `histogram_at` meets its contract: the kind, and then the histogram.
-use borrow.Author.Rules.{rules}
 use mathlib.Core.Path.{◌∙◌}
 use Rattle.body_format.specs.declared.HistogramAnswer.TheVariants.{Refused}
 use Rattle.body_format.specs.Entries.{histograms}

@@ -1,5 +1,4 @@
 -- `span_at` meets its contract: the kind, the place, and then the span.
-use borrow.Author.Rules.{rules}
 use Prim.Native.Nat.{ℕ}
 use mathlib.Core.Path.{◌≡◌, sym, ◌∙◌}
 use mathlib.Core.Bool.{true, false, cond, ◌||◌}

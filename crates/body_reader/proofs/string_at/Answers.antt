@@ -1,5 +1,4 @@
 -- `string_at` meets its contract: its type, its place, and then the string.
-use borrow.Author.Rules.{rules}
 use Prim.Native.Nat.{ℕ}
 use mathlib.Core.Path.{◌≡◌, sym, ap, ◌∙◌}
 use mathlib.Core.List.{List}

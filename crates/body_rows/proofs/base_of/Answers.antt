@@ -1,5 +1,4 @@
 -- `base_of` meets its contract: two fields of eight bytes.
-use borrow.Author.Rules.{rules}
 use native.Mathlib.Omega.{arith}
 use mathlib.Core.Path.{ap, ◌∙◌}
 use Rattle.wal_types.specs.DeltaLaws.{to_from}

@@ -1,5 +1,4 @@
 -- `exemplar_of` meets its contract, by the answer of `string_list_at`.
-use borrow.Author.Rules.{rules}
 use mathlib.Core.Path.{sym, ap, ◌∙◌}
 use Rattle.body_rows.specs.Forms.{exemplar_of}
 use Rattle.body_rows.proofs.exemplar_of.Goals as goal

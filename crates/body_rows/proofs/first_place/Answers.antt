@@ -1,5 +1,4 @@
 -- `first_place` meets its contract: where the rows begin, or the fault before them.
-use borrow.Author.Rules.{rules}
 use mathlib.Core.Path.{◌≡◌, ap, ◌∙◌}
 use mathlib.Core.Bool.{true}
 use mathlib.Core.List.{List}

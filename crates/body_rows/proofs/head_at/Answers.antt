@@ -1,5 +1,4 @@
 -- `head_at` meets its contract, field by field.
-use borrow.Author.Rules.{rules}
 use mathlib.Core.Path.{ap, ◌∙◌}
 use Rattle.wal_types.specs.Deltas.{plus}
 use Rattle.body_fields.specs.Laws.{number-got, number-fault}

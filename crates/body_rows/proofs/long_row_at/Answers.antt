@@ -1,5 +1,4 @@
 -- `long_row_at` meets its contract, field by field.
-use borrow.Author.Rules.{rules}
 use Rattle.body_fields.specs.Laws.{number-got, number-fault}
 use Rattle.body_rows.proofs.Reading.{row_1, row_2, row_3, row-all}
 use Rattle.body_rows.proofs.long_row_at.Goals as goal

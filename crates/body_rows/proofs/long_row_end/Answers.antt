@@ -1,5 +1,4 @@
 -- `long_row_end` meets its contract: one field after the other.
-use borrow.Author.Rules.{rules}
 use Rattle.body_rows.proofs.Ending.{row_ends}
 use Rattle.body_rows.proofs.long_row_end.Goals as goal
 

@@ -1,6 +1,6 @@
 -- `no_row` meets its contract, length by length.
 use native.Mathlib.Omega.{arith}
-use Rattle.body_format.specs.Laws.Places.{bad-past, entry-there}
+use Rattle.body_format.proofs.Laws.Places.{bad-past, entry-there}
 use Rattle.body_rows.specs.Rows.{rows_type}
 use Rattle.body_rows.specs.Laws.{rows-rows}
 use Rattle.body_rows.proofs.Placing.{first_1, first_2, small_bad, small_end, small_fault}

@@ -1,5 +1,4 @@
 -- `row_at` meets its contract: ten bytes, or field by field.
-use borrow.Author.Rules.{rules}
 use native.Mathlib.Omega.{arith}
 use Prim.Native.Nat.{◌+◌}
 use mathlib.Core.Path.{◌≡◌, sym, ◌∙◌}

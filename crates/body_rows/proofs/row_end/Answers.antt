@@ -1,5 +1,4 @@
 -- `row_end` meets its contract: ten bytes, or field by field.
-use borrow.Author.Rules.{rules}
 use native.Mathlib.Omega.{arith}
 use mathlib.Core.Path.{◌≡◌, sym, ◌∙◌}
 use mathlib.Core.Bool.{true}

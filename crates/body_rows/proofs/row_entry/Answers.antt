@@ -1,11 +1,10 @@
 -- `row_entry` meets its contract: no row yet, a bad place, the end, or the row.
-use borrow.Author.Rules.{rules}
 use native.Mathlib.Omega.{arith}
 use Prim.Native.Nat.{ℕ, ◌≤◌, ◌<◌}
 use mathlib.Core.Path.{◌≡◌, sym, ap, ◌∙◌, subst}
 use lib.ListN.{length}
 use Rattle.body_format.specs.Reading.{place_or_end, entry_place}
-use Rattle.body_format.specs.Laws.Places.{place_end, place-before, entry-there}
+use Rattle.body_format.proofs.Laws.Places.{place_end, place-before, entry-there}
 use Rattle.body_rows.specs.Rows.{rows_type}
 use Rattle.body_rows.specs.Laws.{rows-rows}
 use Rattle.body_rows.proofs.Placing.{row_low, row-past, row_here}

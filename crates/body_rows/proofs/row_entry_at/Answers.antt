@@ -1,5 +1,4 @@
 -- `row_entry_at` meets its contract: a row, and the labels of an exemplar.
-use borrow.Author.Rules.{rules}
 use mathlib.Core.Path.{◌∙◌}
 use Rattle.body_rows.proofs.Reading.{row-got, row-fault}
 use Rattle.body_rows.proofs.Reading.{row-entry_1, row-entry_2, row-entry_3}

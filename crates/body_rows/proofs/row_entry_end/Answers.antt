@@ -1,5 +1,4 @@
 -- `row_entry_end` meets its contract: the row's end, or that of the labels after it.
-use borrow.Author.Rules.{rules}
 use Rattle.body_rows.proofs.Ending.{sample-ends, exemplar_ends}
 use Rattle.body_rows.proofs.row_entry_end.Goals as goal
 

@@ -1,11 +1,10 @@
 -- `row_entry_place` meets its contract, place by place.
-use borrow.Author.Rules.{rules}
 use native.Mathlib.Omega.{arith}
 use mathlib.Core.Path.{sym, ap, ◌∙◌}
 use mathlib.Core.Bool.{Bool}
 use Rattle.body_format.specs.Entries.{first_at}
 use Rattle.body_format.specs.Reading.{first_place}
-use Rattle.body_format.specs.Laws.Places.{bad_zero, bad-past, bad_among, known-first, known-later}
+use Rattle.body_format.proofs.Laws.Places.{bad_zero, bad-past, bad_among, known-first, known-later}
 use Rattle.body_rows.proofs.row_entry_place.Goals as goal
 
 pub returns-then-at-eq0 : goal.returns-then-at-eq0

@@ -1,5 +1,4 @@
 -- `row_of` meets its contract: both deltas added.
-use borrow.Author.Rules.{rules}
 use Prim.Native.Nat.{ℕ}
 use lib.IntN.{ℤ}
 use mathlib.Core.Path.{ap, ap₂, ◌∙◌}

@@ -1,7 +1,7 @@
 -- `rows_begin` meets its contract, length by length.
 use mathlib.Core.Path.{sym, ap}
 use mathlib.Core.Bool.{true}
-use Rattle.body_format.specs.Laws.Lists.{first_rows, first_one}
+use Rattle.body_format.proofs.Laws.Lists.{first_rows, first_one}
 use Rattle.body_rows.specs.Rows.{place_read}
 use Rattle.body_rows.proofs.Placing.{first_1, first_2}
 use Rattle.body_rows.proofs.rows_begin.Goals as goal

@@ -1,5 +1,4 @@
 -- `sample_end` meets its contract: ten bytes, or as rows of both types end.
-use borrow.Author.Rules.{rules}
 use native.Mathlib.Omega.{arith}
 use mathlib.Core.Path.{◌≡◌, sym, ◌∙◌}
 use mathlib.Core.Bool.{true}

@@ -1,5 +1,4 @@
 -- `count_samples` meets its contract, by the body's first byte.
-use borrow.Author.Rules.{rules}
 use native.Mathlib.Omega.{arith}
 use mathlib.Core.Path.{sym, ap, ◌∙◌}
 use Rattle.body_format.specs.declared.BucketKind.TheVariants.{Whole, Float}

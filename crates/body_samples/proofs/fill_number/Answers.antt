@@ -1,5 +1,4 @@
 -- `fill_number` meets its contract: a refusal has its number.
-use borrow.Author.Rules.{rules}
 use Rattle.body_samples.proofs.fill_number.Goals as goal
 
 pub returns-in-Refused : goal.returns-in-Refused

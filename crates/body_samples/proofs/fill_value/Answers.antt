@@ -1,5 +1,4 @@
 -- `fill_value` meets its contract: a refusal has its place.
-use borrow.Author.Rules.{rules}
 use mathlib.Core.Path.{ap}
 use Rattle.wal_types.specs.declared.Offset.{Offset}
 use Rattle.body_samples.proofs.fill_value.Goals as goal

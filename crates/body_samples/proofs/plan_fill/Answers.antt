@@ -1,5 +1,4 @@
 -- `plan_fill` meets its contract, by what was counted and the room.
-use borrow.Author.Rules.{rules}
 use mathlib.Core.Path.{sym, ◌∙◌}
 use Rattle.body_samples.specs.Filling.{samples_in}
 use Rattle.body_samples.proofs.Counting.{fits, full, bad}

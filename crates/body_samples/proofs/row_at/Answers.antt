@@ -1,5 +1,4 @@
 -- `row_at` meets its contract: the row of the entry that is read.
-use borrow.Author.Rules.{rules}
 use mathlib.Core.Path.{ap, ◌∙◌}
 use Rattle.body_format.specs.declared.EntryAnswer.{EntryAnswer}
 use Rattle.body_samples.specs.Rows.{row_of}

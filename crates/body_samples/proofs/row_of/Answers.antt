@@ -1,5 +1,4 @@
 -- `row_of` meets its contract, by the answer.
-use borrow.Author.Rules.{rules}
 use mathlib.Core.Path.{sym, ap, ◌∙◌}
 use Rattle.body_format.specs.declared.EntryAnswer.{EntryAnswer}
 use Rattle.body_samples.specs.Rows.{row_of}

@@ -1,7 +1,7 @@
 -- Made by tools/rows, which says how and why; the gate makes it anew and compares.
-use mathlib.Core.Path.{refl}
+use Rattle.std.proofs.Common.{◌≡◌, refl, arith}
 use Rattle.crc32c_format.specs.Crc.{bit_steps, bit_step}
-use Rattle.crc32c_rows_first.proofs.Literal.{at, last}
+use Rattle.crc32c_rows_first.proofs.Literal.{at}
 use Rattle.crc32c_rows_first.proofs.row0.Goals as goal
 
 pub returns-in-0 : goal.returns-in-0
@@ -38,7 +38,7 @@ returns-in-7 c = at 8 _ 7 0x563c5f93 c.in-7.is refl
 
 pub returns-in-8 : goal.returns-in-8
 unfolding bit_steps bit_step
-returns-in-8 c = at 8 _ 8 0x82f63b7 c.in-8.is refl
+returns-in-8 c = at 8 _ 8 0x082f63b7 c.in-8.is refl
 
 pub returns-in-9 : goal.returns-in-9
 unfolding bit_steps bit_step
@@ -114,7 +114,7 @@ returns-in-26 c = at 8 _ 26 0xf94ad42f c.in-26.is refl
 
 pub returns-in-27 : goal.returns-in-27
 unfolding bit_steps bit_step
-returns-in-27 c = at 8 _ 27 0xb21572c c.in-27.is refl
+returns-in-27 c = at 8 _ 27 0x0b21572c c.in-27.is refl
 
 pub returns-in-28 : goal.returns-in-28
 unfolding bit_steps bit_step
@@ -190,7 +190,7 @@ returns-in-45 c = at 8 _ 45 0x1d63f975 c.in-45.is refl
 
 pub returns-in-46 : goal.returns-in-46
 unfolding bit_steps bit_step
-returns-in-46 c = at 8 _ 46 0xe330a81 c.in-46.is refl
+returns-in-46 c = at 8 _ 46 0x0e330a81 c.in-46.is refl
 
 pub returns-in-47 : goal.returns-in-47
 unfolding bit_steps bit_step
@@ -250,7 +250,7 @@ returns-in-60 c = at 8 _ 60 0xff56bd19 c.in-60.is refl
 
 pub returns-in-61 : goal.returns-in-61
 unfolding bit_steps bit_step
-returns-in-61 c = at 8 _ 61 0xd3d3e1a c.in-61.is refl
+returns-in-61 c = at 8 _ 61 0x0d3d3e1a c.in-61.is refl
 
 pub returns-in-62 : goal.returns-in-62
 unfolding bit_steps bit_step
@@ -278,7 +278,7 @@ returns-in-67 c = at 8 _ 67 0xd0ddd530 c.in-67.is refl
 
 pub returns-in-68 : goal.returns-in-68
 unfolding bit_steps bit_step
-returns-in-68 c = at 8 _ 68 0x417b1db c.in-68.is refl
+returns-in-68 c = at 8 _ 68 0x0417b1db c.in-68.is refl
 
 pub returns-in-69 : goal.returns-in-69
 unfolding bit_steps bit_step
@@ -354,7 +354,7 @@ returns-in-86 c = at 8 _ 86 0xf5720643 c.in-86.is refl
 
 pub returns-in-87 : goal.returns-in-87
 unfolding bit_steps bit_step
-returns-in-87 c = at 8 _ 87 0x7198540 c.in-87.is refl
+returns-in-87 c = at 8 _ 87 0x07198540 c.in-87.is refl
 
 pub returns-in-88 : goal.returns-in-88
 unfolding bit_steps bit_step
@@ -398,7 +398,7 @@ returns-in-97 c = at 8 _ 97 0x115b2b19 c.in-97.is refl
 
 pub returns-in-98 : goal.returns-in-98
 unfolding bit_steps bit_step
-returns-in-98 c = at 8 _ 98 0x20bd8ed c.in-98.is refl
+returns-in-98 c = at 8 _ 98 0x020bd8ed c.in-98.is refl
 
 pub returns-in-99 : goal.returns-in-99
 unfolding bit_steps bit_step
@@ -458,7 +458,7 @@ returns-in-112 c = at 8 _ 112 0xf36e6f75 c.in-112.is refl
 
 pub returns-in-113 : goal.returns-in-113
 unfolding bit_steps bit_step
-returns-in-113 c = at 8 _ 113 0x105ec76 c.in-113.is refl
+returns-in-113 c = at 8 _ 113 0x0105ec76 c.in-113.is refl
 
 pub returns-in-114 : goal.returns-in-114
 unfolding bit_steps bit_step
@@ -518,7 +518,7 @@ returns-in-127 c = at 8 _ 127 0xad7d5351 c.in-127.is refl
 
 pub returns-in-128 : goal.returns-in-128
 unfolding bit_steps bit_step
-returns-in-128 c = at 8 _ 128 0x0 c.in-128.is refl
+returns-in-128 c = at 8 _ 128 0x00000000 c.in-128.is refl
 
 pub returns-in-129 : goal.returns-in-129
 unfolding bit_steps bit_step
@@ -594,7 +594,7 @@ returns-in-146 c = at 8 _ 146 0xf165b798 c.in-146.is refl
 
 pub returns-in-147 : goal.returns-in-147
 unfolding bit_steps bit_step
-returns-in-147 c = at 8 _ 147 0x30e349b c.in-147.is refl
+returns-in-147 c = at 8 _ 147 0x030e349b c.in-147.is refl
 
 pub returns-in-148 : goal.returns-in-148
 unfolding bit_steps bit_step
@@ -670,7 +670,7 @@ returns-in-165 c = at 8 _ 165 0x154c9ac2 c.in-165.is refl
 
 pub returns-in-166 : goal.returns-in-166
 unfolding bit_steps bit_step
-returns-in-166 c = at 8 _ 166 0x61c6936 c.in-166.is refl
+returns-in-166 c = at 8 _ 166 0x061c6936 c.in-166.is refl
 
 pub returns-in-167 : goal.returns-in-167
 unfolding bit_steps bit_step
@@ -730,7 +730,7 @@ returns-in-180 c = at 8 _ 180 0xf779deae c.in-180.is refl
 
 pub returns-in-181 : goal.returns-in-181
 unfolding bit_steps bit_step
-returns-in-181 c = at 8 _ 181 0x5125dad c.in-181.is refl
+returns-in-181 c = at 8 _ 181 0x05125dad c.in-181.is refl
 
 pub returns-in-182 : goal.returns-in-182
 unfolding bit_steps bit_step
@@ -822,7 +822,7 @@ returns-in-203 c = at 8 _ 203 0xd8f2b687 c.in-203.is refl
 
 pub returns-in-204 : goal.returns-in-204
 unfolding bit_steps bit_step
-returns-in-204 c = at 8 _ 204 0xc38d26c c.in-204.is refl
+returns-in-204 c = at 8 _ 204 0x0c38d26c c.in-204.is refl
 
 pub returns-in-205 : goal.returns-in-205
 unfolding bit_steps bit_step
@@ -898,7 +898,7 @@ returns-in-222 c = at 8 _ 222 0xfd5d65f4 c.in-222.is refl
 
 pub returns-in-223 : goal.returns-in-223
 unfolding bit_steps bit_step
-returns-in-223 c = at 8 _ 223 0xf36e6f7 c.in-223.is refl
+returns-in-223 c = at 8 _ 223 0x0f36e6f7 c.in-223.is refl
 
 pub returns-in-224 : goal.returns-in-224
 unfolding bit_steps bit_step
@@ -942,7 +942,7 @@ returns-in-233 c = at 8 _ 233 0x197448ae c.in-233.is refl
 
 pub returns-in-234 : goal.returns-in-234
 unfolding bit_steps bit_step
-returns-in-234 c = at 8 _ 234 0xa24bb5a c.in-234.is refl
+returns-in-234 c = at 8 _ 234 0x0a24bb5a c.in-234.is refl
 
 pub returns-in-235 : goal.returns-in-235
 unfolding bit_steps bit_step
@@ -1002,7 +1002,7 @@ returns-in-248 c = at 8 _ 248 0xfb410cc2 c.in-248.is refl
 
 pub returns-in-249 : goal.returns-in-249
 unfolding bit_steps bit_step
-returns-in-249 c = at 8 _ 249 0x92a8fc1 c.in-249.is refl
+returns-in-249 c = at 8 _ 249 0x092a8fc1 c.in-249.is refl
 
 pub returns-in-250 : goal.returns-in-250
 unfolding bit_steps bit_step
@@ -1026,4 +1026,4 @@ returns-in-254 c = at 8 _ 254 0xdde0eb2a c.in-254.is refl
 
 pub returns-in_default : goal.returns-in_default
 unfolding bit_steps bit_step
-returns-in_default c = at 8 c.args.n 255 0x2f8b6829 (last c.args.n c.ranges.n.fits c.in_default.in_default-own.rest) refl
+returns-in_default c = let e : c.args.n ≡ 255 = omega arith in at 8 _ 255 0x2f8b6829 e refl

@@ -1,7 +1,7 @@
 -- Made by tools/rows, which says how and why; the gate makes it anew and compares.
-use mathlib.Core.Path.{refl}
+use Rattle.std.proofs.Common.{◌≡◌, refl, arith}
 use Rattle.crc32c_format.specs.Crc.{bit_steps, bit_step}
-use Rattle.crc32c_rows_first.proofs.Literal.{at, last}
+use Rattle.crc32c_rows_first.proofs.Literal.{at}
 use Rattle.crc32c_rows_first.proofs.row1.Goals as goal
 
 pub returns-in-0 : goal.returns-in-0
@@ -62,7 +62,7 @@ returns-in-13 c = at 16 _ 13 0x3bffc0ea c.in-13.is refl
 
 pub returns-in-14 : goal.returns-in-14
 unfolding bit_steps bit_step
-returns-in-14 c = at 16 _ 14 0xf186873 c.in-14.is refl
+returns-in-14 c = at 16 _ 14 0x0f186873 c.in-14.is refl
 
 pub returns-in-15 : goal.returns-in-15
 unfolding bit_steps bit_step
@@ -122,7 +122,7 @@ returns-in-28 c = at 16 _ 28 0x1798a91c c.in-28.is refl
 
 pub returns-in-29 : goal.returns-in-29
 unfolding bit_steps bit_step
-returns-in-29 c = at 16 _ 29 0x43a316b c.in-29.is refl
+returns-in-29 c = at 16 _ 29 0x043a316b c.in-29.is refl
 
 pub returns-in-30 : goal.returns-in-30
 unfolding bit_steps bit_step
@@ -170,7 +170,7 @@ returns-in-40 c = at 16 _ 40 0x195cda43 c.in-40.is refl
 
 pub returns-in-41 : goal.returns-in-41
 unfolding bit_steps bit_step
-returns-in-41 c = at 16 _ 41 0xafe4234 c.in-41.is refl
+returns-in-41 c = at 16 _ 41 0x0afe4234 c.in-41.is refl
 
 pub returns-in-42 : goal.returns-in-42
 unfolding bit_steps bit_step
@@ -238,7 +238,7 @@ returns-in-57 c = at 16 _ 57 0x353bb3b5 c.in-57.is refl
 
 pub returns-in-58 : goal.returns-in-58
 unfolding bit_steps bit_step
-returns-in-58 c = at 16 _ 58 0x1dc1b2c c.in-58.is refl
+returns-in-58 c = at 16 _ 58 0x01dc1b2c c.in-58.is refl
 
 pub returns-in-59 : goal.returns-in-59
 unfolding bit_steps bit_step
@@ -262,7 +262,7 @@ returns-in-63 c = at 16 _ 63 0x5cf4e287 c.in-63.is refl
 
 pub returns-in-64 : goal.returns-in-64
 unfolding bit_steps bit_step
-returns-in-64 c = at 16 _ 64 0x4d43cfd c.in-64.is refl
+returns-in-64 c = at 16 _ 64 0x04d43cfd c.in-64.is refl
 
 pub returns-in-65 : goal.returns-in-65
 unfolding bit_steps bit_step
@@ -338,7 +338,7 @@ returns-in-82 c = at 16 _ 82 0x1c54fd92 c.in-82.is refl
 
 pub returns-in-83 : goal.returns-in-83
 unfolding bit_steps bit_step
-returns-in-83 c = at 16 _ 83 0xff665e5 c.in-83.is refl
+returns-in-83 c = at 16 _ 83 0x0ff665e5 c.in-83.is refl
 
 pub returns-in-84 : goal.returns-in-84
 unfolding bit_steps bit_step
@@ -418,7 +418,7 @@ returns-in-102 c = at 16 _ 102 0x12908ecd c.in-102.is refl
 
 pub returns-in-103 : goal.returns-in-103
 unfolding bit_steps bit_step
-returns-in-103 c = at 16 _ 103 0x13216ba c.in-103.is refl
+returns-in-103 c = at 16 _ 103 0x013216ba c.in-103.is refl
 
 pub returns-in-104 : goal.returns-in-104
 unfolding bit_steps bit_step
@@ -470,7 +470,7 @@ returns-in-115 c = at 16 _ 115 0x707d86e7 c.in-115.is refl
 
 pub returns-in-116 : goal.returns-in-116
 unfolding bit_steps bit_step
-returns-in-116 c = at 16 _ 116 0xa104fa2 c.in-116.is refl
+returns-in-116 c = at 16 _ 116 0x0a104fa2 c.in-116.is refl
 
 pub returns-in-117 : goal.returns-in-117
 unfolding bit_steps bit_step
@@ -518,7 +518,7 @@ returns-in-127 c = at 16 _ 127 0xa3e32483 c.in-127.is refl
 
 pub returns-in-128 : goal.returns-in-128
 unfolding bit_steps bit_step
-returns-in-128 c = at 16 _ 128 0x0 c.in-128.is refl
+returns-in-128 c = at 16 _ 128 0x00000000 c.in-128.is refl
 
 pub returns-in-129 : goal.returns-in-129
 unfolding bit_steps bit_step
@@ -594,7 +594,7 @@ returns-in-146 c = at 16 _ 146 0x1880c16f c.in-146.is refl
 
 pub returns-in-147 : goal.returns-in-147
 unfolding bit_steps bit_step
-returns-in-147 c = at 16 _ 147 0xb225918 c.in-147.is refl
+returns-in-147 c = at 16 _ 147 0x0b225918 c.in-147.is refl
 
 pub returns-in-148 : goal.returns-in-148
 unfolding bit_steps bit_step
@@ -674,7 +674,7 @@ returns-in-166 c = at 16 _ 166 0x1644b230 c.in-166.is refl
 
 pub returns-in-167 : goal.returns-in-167
 unfolding bit_steps bit_step
-returns-in-167 c = at 16 _ 167 0x5e62a47 c.in-167.is refl
+returns-in-167 c = at 16 _ 167 0x05e62a47 c.in-167.is refl
 
 pub returns-in-168 : goal.returns-in-168
 unfolding bit_steps bit_step
@@ -726,7 +726,7 @@ returns-in-179 c = at 16 _ 179 0x74a9ba1a c.in-179.is refl
 
 pub returns-in-180 : goal.returns-in-180
 unfolding bit_steps bit_step
-returns-in-180 c = at 16 _ 180 0xec4735f c.in-180.is refl
+returns-in-180 c = at 16 _ 180 0x0ec4735f c.in-180.is refl
 
 pub returns-in-181 : goal.returns-in-181
 unfolding bit_steps bit_step
@@ -830,7 +830,7 @@ returns-in-205 c = at 16 _ 205 0x3f2bfc17 c.in-205.is refl
 
 pub returns-in-206 : goal.returns-in-206
 unfolding bit_steps bit_step
-returns-in-206 c = at 16 _ 206 0xbcc548e c.in-206.is refl
+returns-in-206 c = at 16 _ 206 0x0bcc548e c.in-206.is refl
 
 pub returns-in-207 : goal.returns-in-207
 unfolding bit_steps bit_step
@@ -890,7 +890,7 @@ returns-in-220 c = at 16 _ 220 0x134c95e1 c.in-220.is refl
 
 pub returns-in-221 : goal.returns-in-221
 unfolding bit_steps bit_step
-returns-in-221 c = at 16 _ 221 0xee0d96 c.in-221.is refl
+returns-in-221 c = at 16 _ 221 0x00ee0d96 c.in-221.is refl
 
 pub returns-in-222 : goal.returns-in-222
 unfolding bit_steps bit_step
@@ -938,7 +938,7 @@ returns-in-232 c = at 16 _ 232 0x1d88e6be c.in-232.is refl
 
 pub returns-in-233 : goal.returns-in-233
 unfolding bit_steps bit_step
-returns-in-233 c = at 16 _ 233 0xe2a7ec9 c.in-233.is refl
+returns-in-233 c = at 16 _ 233 0x0e2a7ec9 c.in-233.is refl
 
 pub returns-in-234 : goal.returns-in-234
 unfolding bit_steps bit_step
@@ -1006,7 +1006,7 @@ returns-in-249 c = at 16 _ 249 0x31ef8f48 c.in-249.is refl
 
 pub returns-in-250 : goal.returns-in-250
 unfolding bit_steps bit_step
-returns-in-250 c = at 16 _ 250 0x50827d1 c.in-250.is refl
+returns-in-250 c = at 16 _ 250 0x050827d1 c.in-250.is refl
 
 pub returns-in-251 : goal.returns-in-251
 unfolding bit_steps bit_step
@@ -1026,4 +1026,4 @@ returns-in-254 c = at 16 _ 254 0x4b82460d c.in-254.is refl
 
 pub returns-in_default : goal.returns-in_default
 unfolding bit_steps bit_step
-returns-in_default c = at 16 c.args.n 255 0x5820de7a (last c.args.n c.ranges.n.fits c.in_default.in_default-own.rest) refl
+returns-in_default c = let e : c.args.n ≡ 255 = omega arith in at 16 _ 255 0x5820de7a e refl

@@ -1,7 +1,7 @@
 -- Made by tools/rows, which says how and why; the gate makes it anew and compares.
-use mathlib.Core.Path.{refl}
+use Rattle.std.proofs.Common.{◌≡◌, refl, arith}
 use Rattle.crc32c_format.specs.Crc.{bit_steps, bit_step}
-use Rattle.crc32c_rows_first.proofs.Literal.{at, last}
+use Rattle.crc32c_rows_first.proofs.Literal.{at}
 use Rattle.crc32c_rows_first.proofs.row2.Goals as goal
 
 pub returns-in-0 : goal.returns-in-0
@@ -270,7 +270,7 @@ returns-in-65 c = at 24 _ 65 0xe90365e4 c.in-65.is refl
 
 pub returns-in-66 : goal.returns-in-66
 unfolding bit_steps bit_step
-returns-in-66 c = at 24 _ 66 0x32da597 c.in-66.is refl
+returns-in-66 c = at 24 _ 66 0x032da597 c.in-66.is refl
 
 pub returns-in-67 : goal.returns-in-67
 unfolding bit_steps bit_step
@@ -322,7 +322,7 @@ returns-in-78 c = at 24 _ 78 0xa5a23f48 c.in-78.is refl
 
 pub returns-in-79 : goal.returns-in-79
 unfolding bit_steps bit_step
-returns-in-79 c = at 24 _ 79 0xe3ad36 c.in-79.is refl
+returns-in-79 c = at 24 _ 79 0x00e3ad36 c.in-79.is refl
 
 pub returns-in-80 : goal.returns-in-80
 unfolding bit_steps bit_step
@@ -346,7 +346,7 @@ returns-in-84 c = at 24 _ 84 0xa23e2e0a c.in-84.is refl
 
 pub returns-in-85 : goal.returns-in-85
 unfolding bit_steps bit_step
-returns-in-85 c = at 24 _ 85 0x77fbc74 c.in-85.is refl
+returns-in-85 c = at 24 _ 85 0x077fbc74 c.in-85.is refl
 
 pub returns-in-86 : goal.returns-in-86
 unfolding bit_steps bit_step
@@ -358,7 +358,7 @@ returns-in-87 c = at 24 _ 87 0x4810ee79 c.in-87.is refl
 
 pub returns-in-88 : goal.returns-in-88
 unfolding bit_steps bit_step
-returns-in-88 c = at 24 _ 88 0x4b1b4d5 c.in-88.is refl
+returns-in-88 c = at 24 _ 88 0x04b1b4d5 c.in-88.is refl
 
 pub returns-in-89 : goal.returns-in-89
 unfolding bit_steps bit_step
@@ -394,7 +394,7 @@ returns-in-96 c = at 24 _ 96 0xad060c8e c.in-96.is refl
 
 pub returns-in-97 : goal.returns-in-97
 unfolding bit_steps bit_step
-returns-in-97 c = at 24 _ 97 0x8479ef0 c.in-97.is refl
+returns-in-97 c = at 24 _ 97 0x08479ef0 c.in-97.is refl
 
 pub returns-in-98 : goal.returns-in-98
 unfolding bit_steps bit_step
@@ -438,7 +438,7 @@ returns-in-107 c = at 24 _ 107 0x7f79f238 c.in-107.is refl
 
 pub returns-in-108 : goal.returns-in-108
 unfolding bit_steps bit_step
-returns-in-108 c = at 24 _ 108 0xb899651 c.in-108.is refl
+returns-in-108 c = at 24 _ 108 0x0b899651 c.in-108.is refl
 
 pub returns-in-109 : goal.returns-in-109
 unfolding bit_steps bit_step
@@ -478,7 +478,7 @@ returns-in-117 c = at 24 _ 117 0xe63b4760 c.in-117.is refl
 
 pub returns-in-118 : goal.returns-in-118
 unfolding bit_steps bit_step
-returns-in-118 c = at 24 _ 118 0xc158713 c.in-118.is refl
+returns-in-118 c = at 24 _ 118 0x0c158713 c.in-118.is refl
 
 pub returns-in-119 : goal.returns-in-119
 unfolding bit_steps bit_step
@@ -498,7 +498,7 @@ returns-in-122 c = at 24 _ 122 0xaa9a1dcc c.in-122.is refl
 
 pub returns-in-123 : goal.returns-in-123
 unfolding bit_steps bit_step
-returns-in-123 c = at 24 _ 123 0xfdb8fb2 c.in-123.is refl
+returns-in-123 c = at 24 _ 123 0x0fdb8fb2 c.in-123.is refl
 
 pub returns-in-124 : goal.returns-in-124
 unfolding bit_steps bit_step
@@ -518,7 +518,7 @@ returns-in-127 c = at 24 _ 127 0x91052ba8 c.in-127.is refl
 
 pub returns-in-128 : goal.returns-in-128
 unfolding bit_steps bit_step
-returns-in-128 c = at 24 _ 128 0x0 c.in-128.is refl
+returns-in-128 c = at 24 _ 128 0x00000000 c.in-128.is refl
 
 pub returns-in-129 : goal.returns-in-129
 unfolding bit_steps bit_step
@@ -570,7 +570,7 @@ returns-in-140 c = at 24 _ 140 0xa68f9adf c.in-140.is refl
 
 pub returns-in-141 : goal.returns-in-141
 unfolding bit_steps bit_step
-returns-in-141 c = at 24 _ 141 0x3ce08a1 c.in-141.is refl
+returns-in-141 c = at 24 _ 141 0x03ce08a1 c.in-141.is refl
 
 pub returns-in-142 : goal.returns-in-142
 unfolding bit_steps bit_step
@@ -610,7 +610,7 @@ returns-in-150 c = at 24 _ 150 0xa1138b9d c.in-150.is refl
 
 pub returns-in-151 : goal.returns-in-151
 unfolding bit_steps bit_step
-returns-in-151 c = at 24 _ 151 0x45219e3 c.in-151.is refl
+returns-in-151 c = at 24 _ 151 0x045219e3 c.in-151.is refl
 
 pub returns-in-152 : goal.returns-in-152
 unfolding bit_steps bit_step
@@ -622,7 +622,7 @@ returns-in-153 c = at 24 _ 153 0xedb2d131 c.in-153.is refl
 
 pub returns-in-154 : goal.returns-in-154
 unfolding bit_steps bit_step
-returns-in-154 c = at 24 _ 154 0x79c1142 c.in-154.is refl
+returns-in-154 c = at 24 _ 154 0x079c1142 c.in-154.is refl
 
 pub returns-in-155 : goal.returns-in-155
 unfolding bit_steps bit_step
@@ -658,7 +658,7 @@ returns-in-162 c = at 24 _ 162 0xae2ba919 c.in-162.is refl
 
 pub returns-in-163 : goal.returns-in-163
 unfolding bit_steps bit_step
-returns-in-163 c = at 24 _ 163 0xb6a3b67 c.in-163.is refl
+returns-in-163 c = at 24 _ 163 0x0b6a3b67 c.in-163.is refl
 
 pub returns-in-164 : goal.returns-in-164
 unfolding bit_steps bit_step
@@ -702,7 +702,7 @@ returns-in-173 c = at 24 _ 173 0xe28af3b5 c.in-173.is refl
 
 pub returns-in-174 : goal.returns-in-174
 unfolding bit_steps bit_step
-returns-in-174 c = at 24 _ 174 0x8a433c6 c.in-174.is refl
+returns-in-174 c = at 24 _ 174 0x08a433c6 c.in-174.is refl
 
 pub returns-in-175 : goal.returns-in-175
 unfolding bit_steps bit_step
@@ -726,7 +726,7 @@ returns-in-179 c = at 24 _ 179 0x7bc846ed c.in-179.is refl
 
 pub returns-in-180 : goal.returns-in-180
 unfolding bit_steps bit_step
-returns-in-180 c = at 24 _ 180 0xf382284 c.in-180.is refl
+returns-in-180 c = at 24 _ 180 0x0f382284 c.in-180.is refl
 
 pub returns-in-181 : goal.returns-in-181
 unfolding bit_steps bit_step
@@ -746,7 +746,7 @@ returns-in-184 c = at 24 _ 184 0xa9b7b85b c.in-184.is refl
 
 pub returns-in-185 : goal.returns-in-185
 unfolding bit_steps bit_step
-returns-in-185 c = at 24 _ 185 0xcf62a25 c.in-185.is refl
+returns-in-185 c = at 24 _ 185 0x0cf62a25 c.in-185.is refl
 
 pub returns-in-186 : goal.returns-in-186
 unfolding bit_steps bit_step
@@ -1026,4 +1026,4 @@ returns-in-254 c = at 24 _ 254 0xbf63ce95 c.in-254.is refl
 
 pub returns-in_default : goal.returns-in_default
 unfolding bit_steps bit_step
-returns-in_default c = at 24 c.args.n 255 0x1a225ceb (last c.args.n c.ranges.n.fits c.in_default.in_default-own.rest) refl
+returns-in_default c = let e : c.args.n ≡ 255 = omega arith in at 24 _ 255 0x1a225ceb e refl

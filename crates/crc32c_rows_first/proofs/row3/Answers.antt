@@ -1,7 +1,7 @@
 -- Made by tools/rows, which says how and why; the gate makes it anew and compares.
-use mathlib.Core.Path.{refl}
+use Rattle.std.proofs.Common.{◌≡◌, refl, arith}
 use Rattle.crc32c_format.specs.Crc.{bit_steps, bit_step}
-use Rattle.crc32c_rows_first.proofs.Literal.{at, last}
+use Rattle.crc32c_rows_first.proofs.Literal.{at}
 use Rattle.crc32c_rows_first.proofs.row3.Goals as goal
 
 pub returns-in-0 : goal.returns-in-0
@@ -58,7 +58,7 @@ returns-in-12 c = at 32 _ 12 0xdfc69b2a c.in-12.is refl
 
 pub returns-in-13 : goal.returns-in-13
 unfolding bit_steps bit_step
-returns-in-13 c = at 32 _ 13 0x2833192 c.in-13.is refl
+returns-in-13 c = at 32 _ 13 0x02833192 c.in-13.is refl
 
 pub returns-in-14 : goal.returns-in-14
 unfolding bit_steps bit_step
@@ -78,7 +78,7 @@ returns-in-17 c = at 32 _ 17 0x6681d2ba c.in-17.is refl
 
 pub returns-in-18 : goal.returns-in-18
 unfolding bit_steps bit_step
-returns-in-18 c = at 32 _ 18 0x4a35b83 c.in-18.is refl
+returns-in-18 c = at 32 _ 18 0x04a35b83 c.in-18.is refl
 
 pub returns-in-19 : goal.returns-in-19
 unfolding bit_steps bit_step
@@ -182,7 +182,7 @@ returns-in-43 c = at 32 _ 43 0x11e3376b c.in-43.is refl
 
 pub returns-in-44 : goal.returns-in-44
 unfolding bit_steps bit_step
-returns-in-44 c = at 32 _ 44 0x8e38fa1 c.in-44.is refl
+returns-in-44 c = at 32 _ 44 0x08e38fa1 c.in-44.is refl
 
 pub returns-in-45 : goal.returns-in-45
 unfolding bit_steps bit_step
@@ -210,7 +210,7 @@ returns-in-50 c = at 32 _ 50 0xd3864f08 c.in-50.is refl
 
 pub returns-in-51 : goal.returns-in-51
 unfolding bit_steps bit_step
-returns-in-51 c = at 32 _ 51 0xec3e5b0 c.in-51.is refl
+returns-in-51 c = at 32 _ 51 0x0ec3e5b0 c.in-51.is refl
 
 pub returns-in-52 : goal.returns-in-52
 unfolding bit_steps bit_step
@@ -294,7 +294,7 @@ returns-in-71 c = at 32 _ 71 0xe0062e12 c.in-71.is refl
 
 pub returns-in-72 : goal.returns-in-72
 unfolding bit_steps bit_step
-returns-in-72 c = at 32 _ 72 0xf42f53e c.in-72.is refl
+returns-in-72 c = at 32 _ 72 0x0f42f53e c.in-72.is refl
 
 pub returns-in-73 : goal.returns-in-73
 unfolding bit_steps bit_step
@@ -354,7 +354,7 @@ returns-in-86 c = at 32 _ 86 0xd4273597 c.in-86.is refl
 
 pub returns-in-87 : goal.returns-in-87
 unfolding bit_steps bit_step
-returns-in-87 c = at 32 _ 87 0x9629f2f c.in-87.is refl
+returns-in-87 c = at 32 _ 87 0x09629f2f c.in-87.is refl
 
 pub returns-in-88 : goal.returns-in-88
 unfolding bit_steps bit_step
@@ -426,7 +426,7 @@ returns-in-104 c = at 32 _ 104 0xd867e1b5 c.in-104.is refl
 
 pub returns-in-105 : goal.returns-in-105
 unfolding bit_steps bit_step
-returns-in-105 c = at 32 _ 105 0x5224b0d c.in-105.is refl
+returns-in-105 c = at 32 _ 105 0x05224b0d c.in-105.is refl
 
 pub returns-in-106 : goal.returns-in-106
 unfolding bit_steps bit_step
@@ -478,7 +478,7 @@ returns-in-117 c = at 32 _ 117 0x6120a825 c.in-117.is refl
 
 pub returns-in-118 : goal.returns-in-118
 unfolding bit_steps bit_step
-returns-in-118 c = at 32 _ 118 0x302211c c.in-118.is refl
+returns-in-118 c = at 32 _ 118 0x0302211c c.in-118.is refl
 
 pub returns-in-119 : goal.returns-in-119
 unfolding bit_steps bit_step
@@ -518,7 +518,7 @@ returns-in-127 c = at 32 _ 127 0x2803e842 c.in-127.is refl
 
 pub returns-in-128 : goal.returns-in-128
 unfolding bit_steps bit_step
-returns-in-128 c = at 32 _ 128 0x0 c.in-128.is refl
+returns-in-128 c = at 32 _ 128 0x00000000 c.in-128.is refl
 
 pub returns-in-129 : goal.returns-in-129
 unfolding bit_steps bit_step
@@ -642,7 +642,7 @@ returns-in-158 c = at 32 _ 158 0xdb65c0a9 c.in-158.is refl
 
 pub returns-in-159 : goal.returns-in-159
 unfolding bit_steps bit_step
-returns-in-159 c = at 32 _ 159 0x6206a11 c.in-159.is refl
+returns-in-159 c = at 32 _ 159 0x06206a11 c.in-159.is refl
 
 pub returns-in-160 : goal.returns-in-160
 unfolding bit_steps bit_step
@@ -650,7 +650,7 @@ returns-in-160 c = at 32 _ 160 0xd725148b c.in-160.is refl
 
 pub returns-in-161 : goal.returns-in-161
 unfolding bit_steps bit_step
-returns-in-161 c = at 32 _ 161 0xa60be33 c.in-161.is refl
+returns-in-161 c = at 32 _ 161 0x0a60be33 c.in-161.is refl
 
 pub returns-in-162 : goal.returns-in-162
 unfolding bit_steps bit_step
@@ -766,7 +766,7 @@ returns-in-189 c = at 32 _ 189 0x6e625d1b c.in-189.is refl
 
 pub returns-in-190 : goal.returns-in-190
 unfolding bit_steps bit_step
-returns-in-190 c = at 32 _ 190 0xc40d422 c.in-190.is refl
+returns-in-190 c = at 32 _ 190 0x0c40d422 c.in-190.is refl
 
 pub returns-in-191 : goal.returns-in-191
 unfolding bit_steps bit_step
@@ -794,7 +794,7 @@ returns-in-196 c = at 32 _ 196 0xd0846e14 c.in-196.is refl
 
 pub returns-in-197 : goal.returns-in-197
 unfolding bit_steps bit_step
-returns-in-197 c = at 32 _ 197 0xdc1c4ac c.in-197.is refl
+returns-in-197 c = at 32 _ 197 0x0dc1c4ac c.in-197.is refl
 
 pub returns-in-198 : goal.returns-in-198
 unfolding bit_steps bit_step
@@ -878,7 +878,7 @@ returns-in-217 c = at 32 _ 217 0x69c32784 c.in-217.is refl
 
 pub returns-in-218 : goal.returns-in-218
 unfolding bit_steps bit_step
-returns-in-218 c = at 32 _ 218 0xbe1aebd c.in-218.is refl
+returns-in-218 c = at 32 _ 218 0x0be1aebd c.in-218.is refl
 
 pub returns-in-219 : goal.returns-in-219
 unfolding bit_steps bit_step
@@ -918,7 +918,7 @@ returns-in-227 c = at 32 _ 227 0x1ea1c255 c.in-227.is refl
 
 pub returns-in-228 : goal.returns-in-228
 unfolding bit_steps bit_step
-returns-in-228 c = at 32 _ 228 0x7a17a9f c.in-228.is refl
+returns-in-228 c = at 32 _ 228 0x07a17a9f c.in-228.is refl
 
 pub returns-in-229 : goal.returns-in-229
 unfolding bit_steps bit_step
@@ -1010,7 +1010,7 @@ returns-in-250 c = at 32 _ 250 0xdcc4ba36 c.in-250.is refl
 
 pub returns-in-251 : goal.returns-in-251
 unfolding bit_steps bit_step
-returns-in-251 c = at 32 _ 251 0x181108e c.in-251.is refl
+returns-in-251 c = at 32 _ 251 0x0181108e c.in-251.is refl
 
 pub returns-in-252 : goal.returns-in-252
 unfolding bit_steps bit_step
@@ -1026,4 +1026,4 @@ returns-in-254 c = at 32 _ 254 0xa7e68bc5 c.in-254.is refl
 
 pub returns-in_default : goal.returns-in_default
 unfolding bit_steps bit_step
-returns-in_default c = at 32 c.args.n 255 0x7aa3217d (last c.args.n c.ranges.n.fits c.in_default.in_default-own.rest) refl
+returns-in_default c = let e : c.args.n ≡ 255 = omega arith in at 32 _ 255 0x7aa3217d e refl

@@ -1,7 +1,7 @@
 -- Made by tools/rows, which says how and why; the gate makes it anew and compares.
-use mathlib.Core.Path.{refl}
+use Rattle.std.proofs.Common.{◌≡◌, refl, arith}
 use Rattle.crc32c_format.specs.Crc.{bit_steps, bit_step}
-use Rattle.crc32c_rows_later.proofs.Literal.{at, last}
+use Rattle.crc32c_rows_later.proofs.Literal.{at}
 use Rattle.crc32c_rows_later.proofs.row4.Goals as goal
 
 pub returns-in-0 : goal.returns-in-0
@@ -66,7 +66,7 @@ returns-in-14 c = at 40 _ 14 0x3ba2bf25 c.in-14.is refl
 
 pub returns-in-15 : goal.returns-in-15
 unfolding bit_steps bit_step
-returns-in-15 c = at 40 _ 15 0x3b3d089 c.in-15.is refl
+returns-in-15 c = at 40 _ 15 0x03b3d089 c.in-15.is refl
 
 pub returns-in-16 : goal.returns-in-16
 unfolding bit_steps bit_step
@@ -86,7 +86,7 @@ returns-in-19 c = at 40 _ 19 0xa9b3047b c.in-19.is refl
 
 pub returns-in-20 : goal.returns-in-20
 unfolding bit_steps bit_step
-returns-in-20 c = at 40 _ 20 0x1c50a3f c.in-20.is refl
+returns-in-20 c = at 40 _ 20 0x01c50a3f c.in-20.is refl
 
 pub returns-in-21 : goal.returns-in-21
 unfolding bit_steps bit_step
@@ -142,7 +142,7 @@ returns-in-33 c = at 40 _ 33 0x4d1b0fa7 c.in-33.is refl
 
 pub returns-in-34 : goal.returns-in-34
 unfolding bit_steps bit_step
-returns-in-34 c = at 40 _ 34 0x528bf53 c.in-34.is refl
+returns-in-34 c = at 40 _ 34 0x0528bf53 c.in-34.is refl
 
 pub returns-in-35 : goal.returns-in-35
 unfolding bit_steps bit_step
@@ -234,7 +234,7 @@ returns-in-56 c = at 40 _ 56 0x3f4f0a49 c.in-56.is refl
 
 pub returns-in-57 : goal.returns-in-57
 unfolding bit_steps bit_step
-returns-in-57 c = at 40 _ 57 0x75e65e5 c.in-57.is refl
+returns-in-57 c = at 40 _ 57 0x075e65e5 c.in-57.is refl
 
 pub returns-in-58 : goal.returns-in-58
 unfolding bit_steps bit_step
@@ -318,7 +318,7 @@ returns-in-77 c = at 40 _ 77 0x44c0657f c.in-77.is refl
 
 pub returns-in-78 : goal.returns-in-78
 unfolding bit_steps bit_step
-returns-in-78 c = at 40 _ 78 0xcf3d58b c.in-78.is refl
+returns-in-78 c = at 40 _ 78 0x0cf3d58b c.in-78.is refl
 
 pub returns-in-79 : goal.returns-in-79
 unfolding bit_steps bit_step
@@ -346,7 +346,7 @@ returns-in-84 c = at 40 _ 84 0x36946091 c.in-84.is refl
 
 pub returns-in-85 : goal.returns-in-85
 unfolding bit_steps bit_step
-returns-in-85 c = at 40 _ 85 0xe850f3d c.in-85.is refl
+returns-in-85 c = at 40 _ 85 0x0e850f3d c.in-85.is refl
 
 pub returns-in-86 : goal.returns-in-86
 unfolding bit_steps bit_step
@@ -402,7 +402,7 @@ returns-in-98 c = at 40 _ 98 0x3279d5fd c.in-98.is refl
 
 pub returns-in-99 : goal.returns-in-99
 unfolding bit_steps bit_step
-returns-in-99 c = at 40 _ 99 0xa68ba51 c.in-99.is refl
+returns-in-99 c = at 40 _ 99 0x0a68ba51 c.in-99.is refl
 
 pub returns-in-100 : goal.returns-in-100
 unfolding bit_steps bit_step
@@ -486,7 +486,7 @@ returns-in-119 c = at 40 _ 119 0x650f6532 c.in-119.is refl
 
 pub returns-in-120 : goal.returns-in-120
 unfolding bit_steps bit_step
-returns-in-120 c = at 40 _ 120 0x81e60e7 c.in-120.is refl
+returns-in-120 c = at 40 _ 120 0x081e60e7 c.in-120.is refl
 
 pub returns-in-121 : goal.returns-in-121
 unfolding bit_steps bit_step
@@ -518,7 +518,7 @@ returns-in-127 c = at 40 _ 127 0xa0686ea3 c.in-127.is refl
 
 pub returns-in-128 : goal.returns-in-128
 unfolding bit_steps bit_step
-returns-in-128 c = at 40 _ 128 0x0 c.in-128.is refl
+returns-in-128 c = at 40 _ 128 0x00000000 c.in-128.is refl
 
 pub returns-in-129 : goal.returns-in-129
 unfolding bit_steps bit_step
@@ -626,7 +626,7 @@ returns-in-154 c = at 40 _ 154 0x3a67b51a c.in-154.is refl
 
 pub returns-in-155 : goal.returns-in-155
 unfolding bit_steps bit_step
-returns-in-155 c = at 40 _ 155 0x276dab6 c.in-155.is refl
+returns-in-155 c = at 40 _ 155 0x0276dab6 c.in-155.is refl
 
 pub returns-in-156 : goal.returns-in-156
 unfolding bit_steps bit_step
@@ -698,7 +698,7 @@ returns-in-172 c = at 40 _ 172 0x3e8a0076 c.in-172.is refl
 
 pub returns-in-173 : goal.returns-in-173
 unfolding bit_steps bit_step
-returns-in-173 c = at 40 _ 173 0x69b6fda c.in-173.is refl
+returns-in-173 c = at 40 _ 173 0x069b6fda c.in-173.is refl
 
 pub returns-in-174 : goal.returns-in-174
 unfolding bit_steps bit_step
@@ -734,7 +734,7 @@ returns-in-181 c = at 40 _ 181 0x4cde0598 c.in-181.is refl
 
 pub returns-in-182 : goal.returns-in-182
 unfolding bit_steps bit_step
-returns-in-182 c = at 40 _ 182 0x4edb56c c.in-182.is refl
+returns-in-182 c = at 40 _ 182 0x04edb56c c.in-182.is refl
 
 pub returns-in-183 : goal.returns-in-183
 unfolding bit_steps bit_step
@@ -778,7 +778,7 @@ returns-in-192 c = at 40 _ 192 0x37516aae c.in-192.is refl
 
 pub returns-in-193 : goal.returns-in-193
 unfolding bit_steps bit_step
-returns-in-193 c = at 40 _ 193 0xf400502 c.in-193.is refl
+returns-in-193 c = at 40 _ 193 0x0f400502 c.in-193.is refl
 
 pub returns-in-194 : goal.returns-in-194
 unfolding bit_steps bit_step
@@ -878,7 +878,7 @@ returns-in-217 c = at 40 _ 217 0x45056f40 c.in-217.is refl
 
 pub returns-in-218 : goal.returns-in-218
 unfolding bit_steps bit_step
-returns-in-218 c = at 40 _ 218 0xd36dfb4 c.in-218.is refl
+returns-in-218 c = at 40 _ 218 0x0d36dfb4 c.in-218.is refl
 
 pub returns-in-219 : goal.returns-in-219
 unfolding bit_steps bit_step
@@ -950,7 +950,7 @@ returns-in-235 c = at 40 _ 235 0xa1ad649c c.in-235.is refl
 
 pub returns-in-236 : goal.returns-in-236
 unfolding bit_steps bit_step
-returns-in-236 c = at 40 _ 236 0x9db6ad8 c.in-236.is refl
+returns-in-236 c = at 40 _ 236 0x09db6ad8 c.in-236.is refl
 
 pub returns-in-237 : goal.returns-in-237
 unfolding bit_steps bit_step
@@ -994,7 +994,7 @@ returns-in-246 c = at 40 _ 246 0x33bcdfc2 c.in-246.is refl
 
 pub returns-in-247 : goal.returns-in-247
 unfolding bit_steps bit_step
-returns-in-247 c = at 40 _ 247 0xbadb06e c.in-247.is refl
+returns-in-247 c = at 40 _ 247 0x0badb06e c.in-247.is refl
 
 pub returns-in-248 : goal.returns-in-248
 unfolding bit_steps bit_step
@@ -1026,4 +1026,4 @@ returns-in-254 c = at 40 _ 254 0xf6dbd453 c.in-254.is refl
 
 pub returns-in_default : goal.returns-in_default
 unfolding bit_steps bit_step
-returns-in_default c = at 40 c.args.n 255 0xcecabbff (last c.args.n c.ranges.n.fits c.in_default.in_default-own.rest) refl
+returns-in_default c = let e : c.args.n ≡ 255 = omega arith in at 40 _ 255 0xcecabbff e refl

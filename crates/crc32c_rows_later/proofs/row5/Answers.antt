@@ -1,7 +1,7 @@
 -- Made by tools/rows, which says how and why; the gate makes it anew and compares.
-use mathlib.Core.Path.{refl}
+use Rattle.std.proofs.Common.{◌≡◌, refl, arith}
 use Rattle.crc32c_format.specs.Crc.{bit_steps, bit_step}
-use Rattle.crc32c_rows_later.proofs.Literal.{at, last}
+use Rattle.crc32c_rows_later.proofs.Literal.{at}
 use Rattle.crc32c_rows_later.proofs.row5.Goals as goal
 
 pub returns-in-0 : goal.returns-in-0
@@ -78,7 +78,7 @@ returns-in-17 c = at 48 _ 17 0x3334ecf1 c.in-17.is refl
 
 pub returns-in-18 : goal.returns-in-18
 unfolding bit_steps bit_step
-returns-in-18 c = at 48 _ 18 0x788272b c.in-18.is refl
+returns-in-18 c = at 48 _ 18 0x0788272b c.in-18.is refl
 
 pub returns-in-19 : goal.returns-in-19
 unfolding bit_steps bit_step
@@ -118,7 +118,7 @@ returns-in-27 c = at 48 _ 27 0x88be542d c.in-27.is refl
 
 pub returns-in-28 : goal.returns-in-28
 unfolding bit_steps bit_step
-returns-in-28 c = at 48 _ 28 0xef7a880 c.in-28.is refl
+returns-in-28 c = at 48 _ 28 0x0ef7a880 c.in-28.is refl
 
 pub returns-in-29 : goal.returns-in-29
 unfolding bit_steps bit_step
@@ -218,7 +218,7 @@ returns-in-52 c = at 48 _ 52 0xeb05a612 c.in-52.is refl
 
 pub returns-in-53 : goal.returns-in-53
 unfolding bit_steps bit_step
-returns-in-53 c = at 48 _ 53 0x435cd0b c.in-53.is refl
+returns-in-53 c = at 48 _ 53 0x0435cd0b c.in-53.is refl
 
 pub returns-in-54 : goal.returns-in-54
 unfolding bit_steps bit_step
@@ -242,7 +242,7 @@ returns-in-58 c = at 48 _ 58 0xe27a29b9 c.in-58.is refl
 
 pub returns-in-59 : goal.returns-in-59
 unfolding bit_steps bit_step
-returns-in-59 c = at 48 _ 59 0xd4a42a0 c.in-59.is refl
+returns-in-59 c = at 48 _ 59 0x0d4a42a0 c.in-59.is refl
 
 pub returns-in-60 : goal.returns-in-60
 unfolding bit_steps bit_step
@@ -334,7 +334,7 @@ returns-in-81 c = at 48 _ 81 0x3d30b71a c.in-81.is refl
 
 pub returns-in-82 : goal.returns-in-82
 unfolding bit_steps bit_step
-returns-in-82 c = at 48 _ 82 0x98c7cc0 c.in-82.is refl
+returns-in-82 c = at 48 _ 82 0x098c7cc0 c.in-82.is refl
 
 pub returns-in-83 : goal.returns-in-83
 unfolding bit_steps bit_step
@@ -374,7 +374,7 @@ returns-in-91 c = at 48 _ 91 0x86ba0fc6 c.in-91.is refl
 
 pub returns-in-92 : goal.returns-in-92
 unfolding bit_steps bit_step
-returns-in-92 c = at 48 _ 92 0xf3f36b c.in-92.is refl
+returns-in-92 c = at 48 _ 92 0x00f3f36b c.in-92.is refl
 
 pub returns-in-93 : goal.returns-in-93
 unfolding bit_steps bit_step
@@ -474,7 +474,7 @@ returns-in-116 c = at 48 _ 116 0xe501fdf9 c.in-116.is refl
 
 pub returns-in-117 : goal.returns-in-117
 unfolding bit_steps bit_step
-returns-in-117 c = at 48 _ 117 0xa3196e0 c.in-117.is refl
+returns-in-117 c = at 48 _ 117 0x0a3196e0 c.in-117.is refl
 
 pub returns-in-118 : goal.returns-in-118
 unfolding bit_steps bit_step
@@ -498,7 +498,7 @@ returns-in-122 c = at 48 _ 122 0xec7e7252 c.in-122.is refl
 
 pub returns-in-123 : goal.returns-in-123
 unfolding bit_steps bit_step
-returns-in-123 c = at 48 _ 123 0x34e194b c.in-123.is refl
+returns-in-123 c = at 48 _ 123 0x034e194b c.in-123.is refl
 
 pub returns-in-124 : goal.returns-in-124
 unfolding bit_steps bit_step
@@ -518,7 +518,7 @@ returns-in-127 c = at 48 _ 127 0xb1bb2e3c c.in-127.is refl
 
 pub returns-in-128 : goal.returns-in-128
 unfolding bit_steps bit_step
-returns-in-128 c = at 48 _ 128 0x0 c.in-128.is refl
+returns-in-128 c = at 48 _ 128 0x00000000 c.in-128.is refl
 
 pub returns-in-129 : goal.returns-in-129
 unfolding bit_steps bit_step
@@ -574,7 +574,7 @@ returns-in-141 c = at 48 _ 141 0x3dc34471 c.in-141.is refl
 
 pub returns-in-142 : goal.returns-in-142
 unfolding bit_steps bit_step
-returns-in-142 c = at 48 _ 142 0x97f8fab c.in-142.is refl
+returns-in-142 c = at 48 _ 142 0x097f8fab c.in-142.is refl
 
 pub returns-in-143 : goal.returns-in-143
 unfolding bit_steps bit_step
@@ -674,7 +674,7 @@ returns-in-166 c = at 48 _ 166 0xec8d8139 c.in-166.is refl
 
 pub returns-in-167 : goal.returns-in-167
 unfolding bit_steps bit_step
-returns-in-167 c = at 48 _ 167 0x3bdea20 c.in-167.is refl
+returns-in-167 c = at 48 _ 167 0x03bdea20 c.in-167.is refl
 
 pub returns-in-168 : goal.returns-in-168
 unfolding bit_steps bit_step
@@ -682,7 +682,7 @@ returns-in-168 c = at 48 _ 168 0xe5f20e92 c.in-168.is refl
 
 pub returns-in-169 : goal.returns-in-169
 unfolding bit_steps bit_step
-returns-in-169 c = at 48 _ 169 0xac2658b c.in-169.is refl
+returns-in-169 c = at 48 _ 169 0x0ac2658b c.in-169.is refl
 
 pub returns-in-170 : goal.returns-in-170
 unfolding bit_steps bit_step
@@ -774,7 +774,7 @@ returns-in-191 c = at 48 _ 191 0xa3b7c201 c.in-191.is refl
 
 pub returns-in-192 : goal.returns-in-192
 unfolding bit_steps bit_step
-returns-in-192 c = at 48 _ 192 0xe045beb c.in-192.is refl
+returns-in-192 c = at 48 _ 192 0x0e045beb c.in-192.is refl
 
 pub returns-in-193 : goal.returns-in-193
 unfolding bit_steps bit_step
@@ -830,7 +830,7 @@ returns-in-205 c = at 48 _ 205 0x33c71f9a c.in-205.is refl
 
 pub returns-in-206 : goal.returns-in-206
 unfolding bit_steps bit_step
-returns-in-206 c = at 48 _ 206 0x77bd440 c.in-206.is refl
+returns-in-206 c = at 48 _ 206 0x077bd440 c.in-206.is refl
 
 pub returns-in-207 : goal.returns-in-207
 unfolding bit_steps bit_step
@@ -930,7 +930,7 @@ returns-in-230 c = at 48 _ 230 0xe289dad2 c.in-230.is refl
 
 pub returns-in-231 : goal.returns-in-231
 unfolding bit_steps bit_step
-returns-in-231 c = at 48 _ 231 0xdb9b1cb c.in-231.is refl
+returns-in-231 c = at 48 _ 231 0x0db9b1cb c.in-231.is refl
 
 pub returns-in-232 : goal.returns-in-232
 unfolding bit_steps bit_step
@@ -938,7 +938,7 @@ returns-in-232 c = at 48 _ 232 0xebf65579 c.in-232.is refl
 
 pub returns-in-233 : goal.returns-in-233
 unfolding bit_steps bit_step
-returns-in-233 c = at 48 _ 233 0x4c63e60 c.in-233.is refl
+returns-in-233 c = at 48 _ 233 0x04c63e60 c.in-233.is refl
 
 pub returns-in-234 : goal.returns-in-234
 unfolding bit_steps bit_step
@@ -1026,4 +1026,4 @@ returns-in-254 c = at 48 _ 254 0x4283f2f3 c.in-254.is refl
 
 pub returns-in_default : goal.returns-in_default
 unfolding bit_steps bit_step
-returns-in_default c = at 48 c.args.n 255 0xadb399ea (last c.args.n c.ranges.n.fits c.in_default.in_default-own.rest) refl
+returns-in_default c = let e : c.args.n ≡ 255 = omega arith in at 48 _ 255 0xadb399ea e refl

@@ -1,7 +1,7 @@
 -- Made by tools/rows, which says how and why; the gate makes it anew and compares.
-use mathlib.Core.Path.{refl}
+use Rattle.std.proofs.Common.{◌≡◌, refl, arith}
 use Rattle.crc32c_format.specs.Crc.{bit_steps, bit_step}
-use Rattle.crc32c_rows_later.proofs.Literal.{at, last}
+use Rattle.crc32c_rows_later.proofs.Literal.{at}
 use Rattle.crc32c_rows_later.proofs.row6.Goals as goal
 
 pub returns-in-0 : goal.returns-in-0
@@ -50,7 +50,7 @@ returns-in-10 c = at 56 _ 10 0x6b45aa37 c.in-10.is refl
 
 pub returns-in-11 : goal.returns-in-11
 unfolding bit_steps bit_step
-returns-in-11 c = at 56 _ 11 0x34686ff c.in-11.is refl
+returns-in-11 c = at 56 _ 11 0x034686ff c.in-11.is refl
 
 pub returns-in-12 : goal.returns-in-12
 unfolding bit_steps bit_step
@@ -74,7 +74,7 @@ returns-in-16 c = at 56 _ 16 0x6935f452 c.in-16.is refl
 
 pub returns-in-17 : goal.returns-in-17
 unfolding bit_steps bit_step
-returns-in-17 c = at 56 _ 17 0x136d89a c.in-17.is refl
+returns-in-17 c = at 56 _ 17 0x0136d89a c.in-17.is refl
 
 pub returns-in-18 : goal.returns-in-18
 unfolding bit_steps bit_step
@@ -154,7 +154,7 @@ returns-in-36 c = at 56 _ 36 0x6dd54898 c.in-36.is refl
 
 pub returns-in-37 : goal.returns-in-37
 unfolding bit_steps bit_step
-returns-in-37 c = at 56 _ 37 0x5d66450 c.in-37.is refl
+returns-in-37 c = at 56 _ 37 0x05d66450 c.in-37.is refl
 
 pub returns-in-38 : goal.returns-in-38
 unfolding bit_steps bit_step
@@ -258,7 +258,7 @@ returns-in-62 c = at 56 _ 62 0x6fa516fd c.in-62.is refl
 
 pub returns-in-63 : goal.returns-in-63
 unfolding bit_steps bit_step
-returns-in-63 c = at 56 _ 63 0x7a63a35 c.in-63.is refl
+returns-in-63 c = at 56 _ 63 0x07a63a35 c.in-63.is refl
 
 pub returns-in-64 : goal.returns-in-64
 unfolding bit_steps bit_step
@@ -314,7 +314,7 @@ returns-in-76 c = at 56 _ 76 0x6414310c c.in-76.is refl
 
 pub returns-in-77 : goal.returns-in-77
 unfolding bit_steps bit_step
-returns-in-77 c = at 56 _ 77 0xc171dc4 c.in-77.is refl
+returns-in-77 c = at 56 _ 77 0x0c171dc4 c.in-77.is refl
 
 pub returns-in-78 : goal.returns-in-78
 unfolding bit_steps bit_step
@@ -354,7 +354,7 @@ returns-in-86 c = at 56 _ 86 0x66646f69 c.in-86.is refl
 
 pub returns-in-87 : goal.returns-in-87
 unfolding bit_steps bit_step
-returns-in-87 c = at 56 _ 87 0xe6743a1 c.in-87.is refl
+returns-in-87 c = at 56 _ 87 0x0e6743a1 c.in-87.is refl
 
 pub returns-in-88 : goal.returns-in-88
 unfolding bit_steps bit_step
@@ -402,7 +402,7 @@ returns-in-98 c = at 56 _ 98 0x6284d3a3 c.in-98.is refl
 
 pub returns-in-99 : goal.returns-in-99
 unfolding bit_steps bit_step
-returns-in-99 c = at 56 _ 99 0xa87ff6b c.in-99.is refl
+returns-in-99 c = at 56 _ 99 0x0a87ff6b c.in-99.is refl
 
 pub returns-in-100 : goal.returns-in-100
 unfolding bit_steps bit_step
@@ -490,7 +490,7 @@ returns-in-120 c = at 56 _ 120 0x60f48dc6 c.in-120.is refl
 
 pub returns-in-121 : goal.returns-in-121
 unfolding bit_steps bit_step
-returns-in-121 c = at 56 _ 121 0x8f7a10e c.in-121.is refl
+returns-in-121 c = at 56 _ 121 0x08f7a10e c.in-121.is refl
 
 pub returns-in-122 : goal.returns-in-122
 unfolding bit_steps bit_step
@@ -518,7 +518,7 @@ returns-in-127 c = at 56 _ 127 0x7d113d4f c.in-127.is refl
 
 pub returns-in-128 : goal.returns-in-128
 unfolding bit_steps bit_step
-returns-in-128 c = at 56 _ 128 0x0 c.in-128.is refl
+returns-in-128 c = at 56 _ 128 0x00000000 c.in-128.is refl
 
 pub returns-in-129 : goal.returns-in-129
 unfolding bit_steps bit_step
@@ -622,7 +622,7 @@ returns-in-153 c = at 56 _ 153 0xba752b3d c.in-153.is refl
 
 pub returns-in-154 : goal.returns-in-154
 unfolding bit_steps bit_step
-returns-in-154 c = at 56 _ 154 0x2705e65 c.in-154.is refl
+returns-in-154 c = at 56 _ 154 0x02705e65 c.in-154.is refl
 
 pub returns-in-155 : goal.returns-in-155
 unfolding bit_steps bit_step
@@ -702,7 +702,7 @@ returns-in-173 c = at 56 _ 173 0xbe9597f7 c.in-173.is refl
 
 pub returns-in-174 : goal.returns-in-174
 unfolding bit_steps bit_step
-returns-in-174 c = at 56 _ 174 0x690e2af c.in-174.is refl
+returns-in-174 c = at 56 _ 174 0x0690e2af c.in-174.is refl
 
 pub returns-in-175 : goal.returns-in-175
 unfolding bit_steps bit_step
@@ -726,7 +726,7 @@ returns-in-179 c = at 56 _ 179 0x19050c43 c.in-179.is refl
 
 pub returns-in-180 : goal.returns-in-180
 unfolding bit_steps bit_step
-returns-in-180 c = at 56 _ 180 0x4e0bcca c.in-180.is refl
+returns-in-180 c = at 56 _ 180 0x04e0bcca c.in-180.is refl
 
 pub returns-in-181 : goal.returns-in-181
 unfolding bit_steps bit_step
@@ -798,7 +798,7 @@ returns-in-197 c = at 56 _ 197 0xb754ee63 c.in-197.is refl
 
 pub returns-in-198 : goal.returns-in-198
 unfolding bit_steps bit_step
-returns-in-198 c = at 56 _ 198 0xf519b3b c.in-198.is refl
+returns-in-198 c = at 56 _ 198 0x0f519b3b c.in-198.is refl
 
 pub returns-in-199 : goal.returns-in-199
 unfolding bit_steps bit_step
@@ -886,7 +886,7 @@ returns-in-219 c = at 56 _ 219 0x10c475d7 c.in-219.is refl
 
 pub returns-in-220 : goal.returns-in-220
 unfolding bit_steps bit_step
-returns-in-220 c = at 56 _ 220 0xd21c55e c.in-220.is refl
+returns-in-220 c = at 56 _ 220 0x0d21c55e c.in-220.is refl
 
 pub returns-in-221 : goal.returns-in-221
 unfolding bit_steps bit_step
@@ -934,7 +934,7 @@ returns-in-231 c = at 56 _ 231 0x5a09344e c.in-231.is refl
 
 pub returns-in-232 : goal.returns-in-232
 unfolding bit_steps bit_step
-returns-in-232 c = at 56 _ 232 0x9c17994 c.in-232.is refl
+returns-in-232 c = at 56 _ 232 0x09c17994 c.in-232.is refl
 
 pub returns-in-233 : goal.returns-in-233
 unfolding bit_steps bit_step
@@ -974,7 +974,7 @@ returns-in-241 c = at 56 _ 241 0xb3b452a9 c.in-241.is refl
 
 pub returns-in-242 : goal.returns-in-242
 unfolding bit_steps bit_step
-returns-in-242 c = at 56 _ 242 0xbb127f1 c.in-242.is refl
+returns-in-242 c = at 56 _ 242 0x0bb127f1 c.in-242.is refl
 
 pub returns-in-243 : goal.returns-in-243
 unfolding bit_steps bit_step
@@ -1026,4 +1026,4 @@ returns-in-254 c = at 56 _ 254 0xe07c1f73 c.in-254.is refl
 
 pub returns-in_default : goal.returns-in_default
 unfolding bit_steps bit_step
-returns-in_default c = at 56 c.args.n 255 0x887f33bb (last c.args.n c.ranges.n.fits c.in_default.in_default-own.rest) refl
+returns-in_default c = let e : c.args.n ≡ 255 = omega arith in at 56 _ 255 0x887f33bb e refl

@@ -1,7 +1,7 @@
 -- Made by tools/rows, which says how and why; the gate makes it anew and compares.
-use mathlib.Core.Path.{refl}
+use Rattle.std.proofs.Common.{◌≡◌, refl, arith}
 use Rattle.crc32c_format.specs.Crc.{bit_steps, bit_step}
-use Rattle.crc32c_rows_later.proofs.Literal.{at, last}
+use Rattle.crc32c_rows_later.proofs.Literal.{at}
 use Rattle.crc32c_rows_later.proofs.row7.Goals as goal
 
 pub returns-in-0 : goal.returns-in-0
@@ -94,7 +94,7 @@ returns-in-21 c = at 64 _ 21 0xd856609a c.in-21.is refl
 
 pub returns-in-22 : goal.returns-in-22
 unfolding bit_steps bit_step
-returns-in-22 c = at 64 _ 22 0x312e7f3 c.in-22.is refl
+returns-in-22 c = at 64 _ 22 0x0312e7f3 c.in-22.is refl
 
 pub returns-in-23 : goal.returns-in-23
 unfolding bit_steps bit_step
@@ -130,7 +130,7 @@ returns-in-30 c = at 64 _ 30 0x4129e329 c.in-30.is refl
 
 pub returns-in-31 : goal.returns-in-31
 unfolding bit_steps bit_step
-returns-in-31 c = at 64 _ 31 0x8159e0e c.in-31.is refl
+returns-in-31 c = at 64 _ 31 0x08159e0e c.in-31.is refl
 
 pub returns-in-32 : goal.returns-in-32
 unfolding bit_steps bit_step
@@ -222,7 +222,7 @@ returns-in-53 c = at 64 _ 53 0xd5560503 c.in-53.is refl
 
 pub returns-in-54 : goal.returns-in-54
 unfolding bit_steps bit_step
-returns-in-54 c = at 64 _ 54 0xe12826a c.in-54.is refl
+returns-in-54 c = at 64 _ 54 0x0e12826a c.in-54.is refl
 
 pub returns-in-55 : goal.returns-in-55
 unfolding bit_steps bit_step
@@ -258,7 +258,7 @@ returns-in-62 c = at 64 _ 62 0x4c2986b0 c.in-62.is refl
 
 pub returns-in-63 : goal.returns-in-63
 unfolding bit_steps bit_step
-returns-in-63 c = at 64 _ 63 0x515fb97 c.in-63.is refl
+returns-in-63 c = at 64 _ 63 0x0515fb97 c.in-63.is refl
 
 pub returns-in-64 : goal.returns-in-64
 unfolding bit_steps bit_step
@@ -278,7 +278,7 @@ returns-in-67 c = at 64 _ 67 0xf545da3f c.in-67.is refl
 
 pub returns-in-68 : goal.returns-in-68
 unfolding bit_steps bit_step
-returns-in-68 c = at 64 _ 68 0xf1cdf3b c.in-68.is refl
+returns-in-68 c = at 64 _ 68 0x0f1cdf3b c.in-68.is refl
 
 pub returns-in-69 : goal.returns-in-69
 unfolding bit_steps bit_step
@@ -314,7 +314,7 @@ returns-in-76 c = at 64 _ 76 0x4d27dbe1 c.in-76.is refl
 
 pub returns-in-77 : goal.returns-in-77
 unfolding bit_steps bit_step
-returns-in-77 c = at 64 _ 77 0x41ba6c6 c.in-77.is refl
+returns-in-77 c = at 64 _ 77 0x041ba6c6 c.in-77.is refl
 
 pub returns-in-78 : goal.returns-in-78
 unfolding bit_steps bit_step
@@ -406,7 +406,7 @@ returns-in-99 c = at 64 _ 99 0xf845bfa6 c.in-99.is refl
 
 pub returns-in-100 : goal.returns-in-100
 unfolding bit_steps bit_step
-returns-in-100 c = at 64 _ 100 0x21cbaa2 c.in-100.is refl
+returns-in-100 c = at 64 _ 100 0x021cbaa2 c.in-100.is refl
 
 pub returns-in-101 : goal.returns-in-101
 unfolding bit_steps bit_step
@@ -442,7 +442,7 @@ returns-in-108 c = at 64 _ 108 0x4027be78 c.in-108.is refl
 
 pub returns-in-109 : goal.returns-in-109
 unfolding bit_steps bit_step
-returns-in-109 c = at 64 _ 109 0x91bc35f c.in-109.is refl
+returns-in-109 c = at 64 _ 109 0x091bc35f c.in-109.is refl
 
 pub returns-in-110 : goal.returns-in-110
 unfolding bit_steps bit_step
@@ -518,7 +518,7 @@ returns-in-127 c = at 64 _ 127 0x1f1530a5 c.in-127.is refl
 
 pub returns-in-128 : goal.returns-in-128
 unfolding bit_steps bit_step
-returns-in-128 c = at 64 _ 128 0x0 c.in-128.is refl
+returns-in-128 c = at 64 _ 128 0x00000000 c.in-128.is refl
 
 pub returns-in-129 : goal.returns-in-129
 unfolding bit_steps bit_step
@@ -554,7 +554,7 @@ returns-in-136 c = at 64 _ 136 0x423b04da c.in-136.is refl
 
 pub returns-in-137 : goal.returns-in-137
 unfolding bit_steps bit_step
-returns-in-137 c = at 64 _ 137 0xb0779fd c.in-137.is refl
+returns-in-137 c = at 64 _ 137 0x0b0779fd c.in-137.is refl
 
 pub returns-in-138 : goal.returns-in-138
 unfolding bit_steps bit_step
@@ -646,7 +646,7 @@ returns-in-159 c = at 64 _ 159 0x3c14086a c.in-159.is refl
 
 pub returns-in-160 : goal.returns-in-160
 unfolding bit_steps bit_step
-returns-in-160 c = at 64 _ 160 0xd006599 c.in-160.is refl
+returns-in-160 c = at 64 _ 160 0x0d006599 c.in-160.is refl
 
 pub returns-in-161 : goal.returns-in-161
 unfolding bit_steps bit_step
@@ -682,7 +682,7 @@ returns-in-168 c = at 64 _ 168 0x4f3b6143 c.in-168.is refl
 
 pub returns-in-169 : goal.returns-in-169
 unfolding bit_steps bit_step
-returns-in-169 c = at 64 _ 169 0x6071c64 c.in-169.is refl
+returns-in-169 c = at 64 _ 169 0x06071c64 c.in-169.is refl
 
 pub returns-in-170 : goal.returns-in-170
 unfolding bit_steps bit_step
@@ -846,7 +846,7 @@ returns-in-209 c = at 64 _ 209 0xd74abfa1 c.in-209.is refl
 
 pub returns-in-210 : goal.returns-in-210
 unfolding bit_steps bit_step
-returns-in-210 c = at 64 _ 210 0xc0e38c8 c.in-210.is refl
+returns-in-210 c = at 64 _ 210 0x0c0e38c8 c.in-210.is refl
 
 pub returns-in-211 : goal.returns-in-211
 unfolding bit_steps bit_step
@@ -882,7 +882,7 @@ returns-in-218 c = at 64 _ 218 0x4e353c12 c.in-218.is refl
 
 pub returns-in-219 : goal.returns-in-219
 unfolding bit_steps bit_step
-returns-in-219 c = at 64 _ 219 0x7094135 c.in-219.is refl
+returns-in-219 c = at 64 _ 219 0x07094135 c.in-219.is refl
 
 pub returns-in-220 : goal.returns-in-220
 unfolding bit_steps bit_step
@@ -974,7 +974,7 @@ returns-in-241 c = at 64 _ 241 0xda4ada38 c.in-241.is refl
 
 pub returns-in-242 : goal.returns-in-242
 unfolding bit_steps bit_step
-returns-in-242 c = at 64 _ 242 0x10e5d51 c.in-242.is refl
+returns-in-242 c = at 64 _ 242 0x010e5d51 c.in-242.is refl
 
 pub returns-in-243 : goal.returns-in-243
 unfolding bit_steps bit_step
@@ -1010,7 +1010,7 @@ returns-in-250 c = at 64 _ 250 0x4335598b c.in-250.is refl
 
 pub returns-in-251 : goal.returns-in-251
 unfolding bit_steps bit_step
-returns-in-251 c = at 64 _ 251 0xa0924ac c.in-251.is refl
+returns-in-251 c = at 64 _ 251 0x0a0924ac c.in-251.is refl
 
 pub returns-in-252 : goal.returns-in-252
 unfolding bit_steps bit_step
@@ -1026,4 +1026,4 @@ returns-in-254 c = at 64 _ 254 0x6228dbe6 c.in-254.is refl
 
 pub returns-in_default : goal.returns-in_default
 unfolding bit_steps bit_step
-returns-in_default c = at 64 c.args.n 255 0x2b14a6c1 (last c.args.n c.ranges.n.fits c.in_default.in_default-own.rest) refl
+returns-in_default c = let e : c.args.n ≡ 255 = omega arith in at 64 _ 255 0x2b14a6c1 e refl

@@ -1,9 +1,6 @@
--- `fill_first_row` meets its contract. The invariant: the first i entries are right.
-use borrow.Author.Rules.{rules}
-use native.Mathlib.Omega.{arith}
-use Prim.Native.Nat.{◌-◌, ◌≤◌}
-use mathlib.Core.Path.{◌∙◌}
-use Rattle.crc32c_format.specs.Method.Tables.{Filled, filled_more, filled_to, entry_first}
+-- The first i entries are right.
+use Rattle.std.proofs.Common.{◌≤◌, ◌-◌}
+use Rattle.crc32c_format.specs.Method.Tables.{Filled}
 use Rattle.crc32c_table.proofs.fill_first_row.Given as goal
 
 abbrev pub invariant-loop-i : goal.invariant-loop-i

@@ -1,13 +1,10 @@
--- `fill_other_rows` meets its contract. The invariant: the first i entries are right.
-use borrow.Author.Rules.{rules}
-use native.Mathlib.Omega.{arith}
-use Prim.Native.Nat.{◌-◌, ◌≤◌}
-use mathlib.Core.Path.{refl}
-use Rattle.crc32c_format.specs.Method.Tables.{Filled, filled_more, filled_to, entry_next}
+-- The first i entries are right.
+use Rattle.std.proofs.Common.{◌≤◌, ◌-◌}
+use Rattle.crc32c_format.specs.Method.Tables.{Filled}
 use Rattle.crc32c_table.proofs.fill_other_rows.Given as goal
 
 abbrev pub invariant-loop-i : goal.invariant-loop-i
-invariant-loop-i l = (256 ≤ l.i) × (l.i ≤ 2048) × Filled l.table l.i
+invariant-loop-i l = (256 ≤ l.i) × ((l.i ≤ 2048) × Filled l.table l.i)
 
 abbrev pub decreases-loop-i : goal.decreases-loop-i
 decreases-loop-i l = 2048 - l.i

@@ -1,5 +1,4 @@
--- `fill_table` meets its contract: all entries are right, so the table is the definition.
-use borrow.Author.Rules.{rules}
+-- All entries are right, so the table is the definition.
 use Rattle.crc32c_format.specs.Method.Tables.{filled-all}
 use Rattle.crc32c_table.proofs.fill_table.Goals as goal
 

@@ -1,5 +1,4 @@
 -- `depot_wal_add_series` meets its contract: that of `Body::add_series`, as numbers.
-use borrow.Author.Rules.{rules}
 use mathlib.Core.Path.{ap, ◌∙◌}
 use Rattle.depot_wal_results.specs.Bodies.{added_code, added_out}
 use Rattle.depot_wal_bodies.proofs.depot_wal_add_series.Goals as goal

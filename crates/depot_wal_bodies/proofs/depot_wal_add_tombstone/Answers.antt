@@ -1,5 +1,4 @@
 -- `depot_wal_add_tombstone` meets its contract: that of `Body::add_tombstone`, as numbers.
-use borrow.Author.Rules.{rules}
 use mathlib.Core.Path.{ap, ◌∙◌}
 use Rattle.depot_wal_results.specs.Bodies.{added_code, added_out}
 use mir.Facts.{to_z-of_z}

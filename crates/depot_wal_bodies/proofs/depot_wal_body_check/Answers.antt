@@ -1,5 +1,4 @@
 -- `depot_wal_body_check` meets its contract: that of `body_reader::check`, as numbers.
-use borrow.Author.Rules.{rules}
 use mathlib.Core.Path.{ap, ◌∙◌}
 use Rattle.depot_wal_results.specs.Bodies.{check_code, check_out}
 use Rattle.depot_wal_bodies.proofs.depot_wal_body_check.Goals as goal

@@ -1,5 +1,4 @@
 -- `depot_wal_bucket_at` meets its contract: that of `body_reader::bucket_at`, as numbers.
-use borrow.Author.Rules.{rules}
 use mathlib.Core.Path.{ap, ◌∙◌}
 use Rattle.depot_wal_results.specs.Histograms.{bucket_code, bucket_out}
 use Rattle.depot_wal_bodies.proofs.depot_wal_bucket_at.Goals as goal

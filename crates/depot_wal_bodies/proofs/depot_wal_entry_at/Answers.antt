@@ -1,5 +1,4 @@
 -- `depot_wal_entry_at` meets its contract: that of `body_reader::entry_at`, as numbers.
-use borrow.Author.Rules.{rules}
 use mathlib.Core.Path.{ap, ◌∙◌}
 use Rattle.depot_wal_results.specs.Bodies.{entry_code, entry_out}
 use Rattle.depot_wal_bodies.proofs.depot_wal_entry_at.Goals as goal

@@ -1,5 +1,4 @@
 -- `depot_wal_span_at` meets its contract: that of `body_reader::span_at`, as numbers.
-use borrow.Author.Rules.{rules}
 use mathlib.Core.Path.{ap, ◌∙◌}
 use Rattle.depot_wal_results.specs.Histograms.{span_code, span_out}
 use Rattle.depot_wal_bodies.proofs.depot_wal_span_at.Goals as goal

@@ -1,5 +1,4 @@
 -- `depot_wal_string_at` meets its contract: that of `body_reader::string_at`, as numbers.
-use borrow.Author.Rules.{rules}
 use mathlib.Core.Path.{ap, ◌∙◌}
 use Rattle.depot_wal_results.specs.Bodies.{string_code, string_out}
 use Rattle.depot_wal_bodies.proofs.depot_wal_string_at.Goals as goal

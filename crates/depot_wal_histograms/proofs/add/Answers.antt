@@ -1,5 +1,4 @@
 -- `add` meets its contract: that of `add_histogram`, as numbers.
-use borrow.Author.Rules.{rules}
 use mathlib.Core.Path.{ap, ◌∙◌}
 use Rattle.depot_wal_results.specs.Bodies.{added_code, added_out}
 use Rattle.depot_wal_histograms.proofs.add.Goals as goal

@@ -1,5 +1,4 @@
 -- `depot_wal_add_float_histogram` meets its contract: that of `add`, for type 8.
-use borrow.Author.Rules.{rules}
 use mir.Facts.{to_z-of_z}
 use mir.Syntax.{w32, w64}
 use Rattle.depot_wal_histograms.proofs.depot_wal_add_float_histogram.Goals as goal

@@ -1,13 +1,12 @@
 -- `Body::add_exemplar` meets its contract: the size, the gate, and then the puts.
-use borrow.Author.Rules.{rules}
 use native.Mathlib.Omega.{arith}
-use Prim.Native.Nat.{ℕ, ◌+◌, ◌≤◌}
+use Prim.Native.Nat.{◌+◌, ◌≤◌}
 use mathlib.Core.Path.{◌≡◌, ap, ◌∙◌}
-use mathlib.Core.Bool.{Bool, false}
-use mathlib.Core.List.{List, ◌++◌}
+use mathlib.Core.Bool.{false}
+use mathlib.Core.List.{◌++◌}
 use lib.ListN.{length, length-append}
 use Rattle.wal_types.specs.Deltas.{to_bits}
-use Rattle.body_format.specs.Entries.{exemplar_entry, Entry}
+use Rattle.body_format.specs.Entries.{exemplar_entry}
 use Rattle.body_format.specs.Building.{entry_bytes, row_bytes, string_list_bytes, cut_strings, bad_list}
 use Rattle.body_builder.specs.Sizes.{gate_for, decided, deltas_in, zigzags_of}
 use Rattle.body_builder.specs.Laws.Putting.{room_then, put_then}

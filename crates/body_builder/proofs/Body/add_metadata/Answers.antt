@@ -1,11 +1,10 @@
 -- `Body::add_metadata` meets its contract: the size, the gate, and then the puts.
-use borrow.Author.Rules.{rules}
 use native.Mathlib.Omega.{arith}
 use Prim.Native.Nat.{ℕ, ◌+◌}
 use mathlib.Core.Path.{◌≡◌, ap}
-use mathlib.Core.Bool.{Bool, false}
+use mathlib.Core.Bool.{false}
 use lib.ListN.{length}
-use Rattle.body_format.specs.Entries.{metadata_entry, Entry}
+use Rattle.body_format.specs.Entries.{metadata_entry}
 use Rattle.body_format.specs.Building.{entry_bytes, cut_strings, bad_list}
 use Rattle.body_builder.specs.Sizes.{gate_for, decided}
 use Rattle.body_builder.specs.Laws.Additions.{Opened, opened, shut, finished, Sized}

@@ -1,10 +1,9 @@
 -- `Body::add_sample` meets its contract: the size, the gate, and then the puts.
-use borrow.Author.Rules.{rules}
 use mathlib.Core.Path.{◌≡◌, ap, ◌∙◌}
 use mathlib.Core.Bool.{false}
 use lib.ListN.{length}
 use Rattle.wal_types.specs.Deltas.{to_bits}
-use Rattle.body_format.specs.Entries.{sample_entry, Entry}
+use Rattle.body_format.specs.Entries.{sample_entry}
 use Rattle.body_format.specs.Building.{entry_bytes}
 use Rattle.body_builder.specs.Sizes.{deltas_in, zigzags_of}
 use Rattle.body_builder.specs.Laws.Additions.{Opened, opened, shut, finished, Sized, exact}

@@ -1,12 +1,11 @@
 -- `Body::add_tombstone` meets its contract: the size, the gate, and then the puts.
-use borrow.Author.Rules.{rules}
 use native.Mathlib.Omega.{arith}
 use mathlib.Core.Path.{◌≡◌}
 use mathlib.Core.Bool.{false}
 use lib.ListN.{length}
-use Rattle.body_format.specs.Entries.{tombstone_entry, Entry}
+use Rattle.body_format.specs.Entries.{tombstone_entry}
 use Rattle.body_format.specs.Building.{entry_bytes}
-use Rattle.body_format.specs.Laws.Strings.{length-tombstone}
+use Rattle.body_format.proofs.Laws.Strings.{length-tombstone}
 use Rattle.body_builder.specs.Laws.Additions.{Opened, opened, shut, finished, Sized, exact}
 use Rattle.body_builder.proofs.Body.add_tombstone.Goals as goal
 use Rattle.body_builder.proofs.Body.add_tombstone.Goals.{After-tombstone_size-size, In-Open}

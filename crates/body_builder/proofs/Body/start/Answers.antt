@@ -1,12 +1,10 @@
 -- `Body::start` meets its contract: its type, and then the buffer's room.
-use borrow.Author.Rules.{rules}
 use native.Mathlib.Omega.{arith}
 use Prim.Native.Nat.{ℕ}
 use mathlib.Core.Path.{◌≡◌, refl, sym, ◌∙◌}
 use mathlib.Core.Bool.{true, false}
-use borrow.Author.Tests.{not-true, not-false}
 use Rattle.body_format.specs.Entries.{BodyType, Known, known, unknown}
-use Rattle.body_format.specs.Laws.Additions.{start_no_room, start-used, start-unknown}
+use Rattle.body_format.proofs.Laws.Additions.{start_no_room, start-used, start-unknown}
 use Rattle.body_builder.specs.Sizes.{is_known}
 use Rattle.body_builder.proofs.Body.start.Goals as goal
 

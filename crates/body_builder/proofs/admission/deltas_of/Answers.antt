@@ -1,5 +1,4 @@
 -- `deltas_of` meets its contract: both are 0, or two differences modulo 2^64.
-use borrow.Author.Rules.{rules}
 use native.Mathlib.Omega.{arith}
 use borrow.Author.Tests.{eq-eqb, ne_eqb}
 use Prim.Native.Nat.{ℕ}

@@ -2,7 +2,7 @@
 use native.Mathlib.Omega.{arith}
 use mathlib.Core.Path.{sym, ap}
 use Rattle.body_format.specs.Entries.{body_type_of}
-use Rattle.body_format.specs.Laws.Types.{type_unknown}
+use Rattle.body_format.proofs.Laws.Types.{type_unknown}
 use Rattle.body_builder.specs.Sizes.{is_known}
 use Rattle.body_builder.proofs.admission.is_known.Goals as goal
 

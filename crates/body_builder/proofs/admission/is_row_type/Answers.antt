@@ -1,6 +1,6 @@
 -- `is_row_type` meets its contract, by the byte.
 use Rattle.body_format.specs.Entries.{body_type_of}
-use Rattle.body_format.specs.Laws.Types.{rows-by_eight}
+use Rattle.body_format.proofs.Laws.Types.{rows-by_eight}
 use Rattle.body_builder.proofs.admission.is_row_type.Goals as goal
 
 pub returns-then-tag-eq-SAMPLES : goal.returns-then-tag-eq-SAMPLES

@@ -1,5 +1,4 @@
 -- `state_is_bad` meets its contract, test by test.
-use borrow.Author.Rules.{rules}
 use native.Mathlib.Omega.{arith}
 use mathlib.Core.Path.{◌≡◌, sym}
 use mathlib.Core.Bool.{◌||◌, ◌&&◌, not, or-true, or-false, and-true, and-false}
@@ -8,7 +7,7 @@ use lib.ListN.{get_or}
 use borrow.Author.Tests.{le-leb, lt-leb, eq-eqb, ne_eqb}
 use Rattle.body_format.specs.Entries.{body_type_of, rows_known}
 use Rattle.body_format.specs.Building.{bad_state}
-use Rattle.body_format.specs.Laws.Additions.{state_zero, state-past, state_inside}
+use Rattle.body_format.proofs.Laws.Additions.{state_zero, state-past, state_inside}
 use Rattle.body_builder.proofs.admission.state_is_bad.Goals as goal
 use Rattle.body_builder.proofs.admission.state_is_bad.Goals.{Else-buffer-tag, Else-buffer-used}
 

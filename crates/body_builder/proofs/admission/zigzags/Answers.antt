@@ -1,5 +1,4 @@
 -- `zigzags` meets its contract: two zigzags.
-use borrow.Author.Rules.{rules}
 use Prim.Native.Nat.{ℕ}
 use mathlib.Core.Path.{ap₂}
 use Rattle.body_builder.specs.declared.admission.Deltas.{Deltas}

@@ -1,5 +1,4 @@
 -- `put_long_deltas` meets its contract: three puts in a row.
-use borrow.Author.Rules.{rules}
 use Rattle.uvarint.specs.Uvarint.{uvarint}
 use Rattle.big_endian.specs.Fixed.{be8}
 use Rattle.body_builder.specs.Sizes.{row_tail}

@@ -1,14 +1,9 @@
 -- `put_metadata` meets its contract: the id, the metric type, and then the list.
-use borrow.Author.Rules.{rules}
 use native.Mathlib.Omega.{arith}
-use Prim.Native.Nat.{ℕ}
 use mathlib.Core.Path.{ap, ◌∙◌}
-use mathlib.Core.List.{List}
 use lib.ListN.{length}
 use lib.Seq.{length-sets}
-use Rattle.body_format.specs.Entries.{metadata_entry}
 use Rattle.body_format.specs.Building.{entry_bytes, string_list_bytes, cut_strings}
-use Rattle.body_builder.specs.Laws.Putting.{Put}
 use Rattle.body_builder.proofs.Laying.{byte_room, byte_then, byte_laid}
 use Rattle.body_builder.proofs.builder.put_metadata.Goals as goal
 

@@ -1,5 +1,4 @@
 -- `put_row` meets its contract: the first row, or a later one.
-use borrow.Author.Rules.{rules}
 use Rattle.wal_types.specs.Deltas.{to_bits}
 use Rattle.body_builder.proofs.Sizing.{later-row, first-room, first-row}
 use Rattle.body_builder.proofs.builder.put_row.Goals as goal

@@ -1,12 +1,8 @@
 -- `put_short_deltas` meets its contract: two stores and a put.
-use borrow.Author.Rules.{rules}
 use native.Mathlib.Omega.{arith}
-use Prim.Native.Nat.{◌+◌, ◌≤◌}
 use mathlib.Core.Path.{ap, ◌∙◌}
 use lib.ListN.{length, length-set}
 use lib.Seq.{length-sets}
-use Rattle.body_builder.specs.Sizes.{row_tail}
-use Rattle.body_builder.specs.Laws.Putting.{Put}
 use Rattle.body_builder.proofs.Sizing.{short-room, short-put}
 use Rattle.body_builder.proofs.builder.put_short_deltas.Goals as goal
 

@@ -1,5 +1,4 @@
 -- `put_row_at` meets its contract: there is room for the row, or nothing changes.
-use borrow.Author.Rules.{rules}
 use native.Mathlib.Omega.{arith}
 use mathlib.Core.Path.{◌≡◌, sym, ap, ◌∙◌}
 use lib.ListN.{length}

@@ -1,5 +1,4 @@
 -- `row_len` meets its contract: a row has as many bytes, whatever its value.
-use borrow.Author.Rules.{rules}
 use mathlib.Core.Path.{◌≡◌, ap, ◌∙◌}
 use Rattle.wal_types.specs.Deltas.{to_bits}
 use Rattle.body_builder.specs.Sizes.{deltas_in, zigzags_of}

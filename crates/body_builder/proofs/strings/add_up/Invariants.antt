@@ -1,14 +1,9 @@
 -- `add_up` meets its contract. The loop's invariant: what is left of the size is compared with the
 -- sum of the lengths that are left.
-use borrow.Author.Rules.{rules}
-use native.Mathlib.Omega.{arith}
 use Prim.Native.Nat.{◌+◌, ◌-◌, ◌≤◌}
-use mathlib.Core.Path.{◌≡◌, refl, sym}
+use mathlib.Core.Path.{◌≡◌}
 use lib.ListN.{length, drop}
-use borrow.Author.Tests.{ne_eqb}
 use Rattle.body_format.specs.Building.{total}
-use Rattle.body_format.specs.Laws.Strings.{total-step}
-use Rattle.body_builder.proofs.Sizing.{total-end, sum_is}
 use Rattle.body_builder.proofs.strings.add_up.Given as goal
 
 abbrev pub invariant-loop-i : goal.invariant-loop-i

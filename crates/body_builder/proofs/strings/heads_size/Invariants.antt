@@ -1,12 +1,9 @@
 -- `heads_size` meets its contract. The loop's invariant: the size so far and that of the lengths
 -- that are left make the whole.
-use borrow.Author.Rules.{rules}
-use native.Mathlib.Omega.{arith}
 use Prim.Native.Nat.{◌+◌, ◌-◌, ◌*◌, ◌≤◌}
 use mathlib.Core.Path.{◌≡◌}
 use lib.ListN.{length, drop}
 use Rattle.body_builder.specs.Sizes.{heads}
-use Rattle.body_builder.proofs.Sizing.{heads-step, heads-end}
 use Rattle.body_builder.proofs.strings.heads_size.Given as goal
 
 abbrev pub invariant-loop-i : goal.invariant-loop-i

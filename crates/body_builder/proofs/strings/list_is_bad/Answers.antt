@@ -1,10 +1,9 @@
 -- `list_is_bad` meets its contract: the count, and the sum.
-use borrow.Author.Rules.{rules}
 use mathlib.Core.Path.{sym, ap}
 use mathlib.Core.Bool.{not}
 use borrow.Author.Tests.{ne_eqb}
 use Rattle.body_format.specs.Building.{bad_list}
-use Rattle.body_format.specs.Laws.Strings.{odd_list}
+use Rattle.body_format.proofs.Laws.Strings.{odd_list}
 use Rattle.body_builder.proofs.strings.list_is_bad.Goals as goal
 
 pub returns-then-lengths-eq1 : goal.returns-then-lengths-eq1

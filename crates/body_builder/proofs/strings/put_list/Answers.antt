@@ -1,5 +1,4 @@
 -- `put_list` meets its contract: the count, and then the strings.
-use borrow.Author.Rules.{rules}
 use Rattle.body_builder.proofs.Laying.{list-room, list-laid}
 use Rattle.body_builder.proofs.strings.put_list.Goals as goal
 

@@ -1,12 +1,11 @@
 -- `put_strings` meets its contract. The loop's invariant, `Laying`: once the strings that are left
 -- are written, the slice is as it is to be.
-use borrow.Author.Rules.{rules}
 use native.Mathlib.Omega.{arith}
-use Prim.Native.Nat.{◌-◌, ◌<◌}
+use Prim.Native.Nat.{◌<◌}
 use mathlib.Core.Path.{◌∙◌}
 use lib.ListN.{length}
 use Rattle.byte_copy.specs.CopiedLaws.{copied-fits}
-use Rattle.body_builder.proofs.Laying.{Laying, laying, laid, string_inside, string-room, string-laid}
+use Rattle.body_builder.proofs.Laying.{laying, laid, string_inside, string-room, string-laid}
 use Rattle.body_builder.proofs.strings.put_strings.Goals as goal
 
 pub loop-i-init : goal.loop-i-init

@@ -1,5 +1,4 @@
 -- `bucket_list_size` meets its contract.
-use borrow.Author.Rules.{rules}
 use native.Mathlib.Omega.{arith}
 use Rattle.body_builder_histogram.proofs.Laying.{list-above, list-exact}
 use Rattle.body_builder_histogram.proofs.buckets.bucket_list_size.Goals as goal

@@ -1,5 +1,4 @@
 -- `bucket_size` meets its contract, by the kind.
-use borrow.Author.Rules.{rules}
 use native.Mathlib.Omega.{arith}
 use mathlib.Core.Path.{sym, ap, ◌∙◌}
 use lib.ListN.{length}

@@ -1,11 +1,9 @@
 -- `buckets_size` meets its contract. The loop's invariant, `Sizing`: the size so far and that of the
 -- buckets that are left make the whole.
-use borrow.Author.Rules.{rules}
-use native.Mathlib.Omega.{arith}
 use Prim.Native.Nat.{◌-◌}
 use lib.ListN.{length}
 use Rattle.body_format.specs.declared.Element.TheVariants as element
-use Rattle.body_builder_histogram.proofs.Laying.{Sizing, sizing, sized_more, sized-all, bucket-step}
+use Rattle.body_builder_histogram.proofs.Laying.{Sizing}
 use Rattle.body_builder_histogram.proofs.buckets.buckets_size.Given as goal
 
 abbrev pub invariant-loop-i : goal.invariant-loop-i

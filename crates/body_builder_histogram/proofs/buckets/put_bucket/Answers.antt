@@ -1,5 +1,4 @@
 -- `put_bucket` meets its contract, by the kind.
-use borrow.Author.Rules.{rules}
 use Rattle.body_builder_histogram.proofs.Fields.{whole-bucket, float_bucket}
 use Rattle.body_builder_histogram.proofs.buckets.put_bucket.Goals as goal
 

@@ -1,5 +1,4 @@
 -- `put_bucket_list` meets its contract: the count, and then the buckets.
-use borrow.Author.Rules.{rules}
 use mathlib.Core.Path.{refl}
 use Rattle.body_builder_histogram.proofs.Laying.{list-room, list-laid}
 use Rattle.body_builder_histogram.proofs.buckets.put_bucket_list.Goals as goal

@@ -1,9 +1,5 @@
 -- `put_bucket_sides` meets its contract: one list, and then the other.
-use borrow.Author.Rules.{rules}
-use Prim.Native.Nat.{ℕ}
-use mathlib.Core.List.{List}
 use Rattle.body_format.specs.declared.Element.TheVariants as element
-use Rattle.body_format.specs.Histograms.{Sides}
 use Rattle.body_builder_histogram.specs.Lent.{sides}
 use Rattle.body_builder_histogram.proofs.Parts.{positive-room, negative-room, sides-laid}
 use Rattle.body_builder_histogram.proofs.buckets.put_bucket_sides.Goals as goal

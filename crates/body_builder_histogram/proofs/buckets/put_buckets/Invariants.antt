@@ -1,11 +1,9 @@
 -- `put_buckets` meets its contract. The loop's invariant, `Laying`: once the buckets that are left
 -- are written, the slice is as it is to be.
-use borrow.Author.Rules.{rules}
 use Prim.Native.Nat.{◌-◌}
 use lib.ListN.{length}
 use Rattle.body_format.specs.declared.Element.TheVariants as element
-use Rattle.body_builder.specs.Laws.Putting.{put_last}
-use Rattle.body_builder_histogram.proofs.Laying.{Laying, laying, laid, item_room, item_laid, bucket-step}
+use Rattle.body_builder_histogram.proofs.Laying.{Laying}
 use Rattle.body_builder_histogram.proofs.buckets.put_buckets.Given as goal
 
 abbrev pub invariant-loop-i : goal.invariant-loop-i

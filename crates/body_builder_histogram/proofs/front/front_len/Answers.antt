@@ -1,5 +1,4 @@
 -- `front_len` meets its contract: the head, and the numbers.
-use borrow.Author.Rules.{rules}
 use native.Mathlib.Omega.{arith}
 use mathlib.Core.Path.{◌≡◌, ap, ◌∙◌}
 use Rattle.wal_types.specs.Deltas.{to_bits}

@@ -1,5 +1,4 @@
 -- `put_front` meets its contract: there is room for the head and the numbers, or nothing changes.
-use borrow.Author.Rules.{rules}
 use native.Mathlib.Omega.{arith}
 use Prim.Native.Nat.{◌+◌, ◌≤◌}
 use mathlib.Core.Path.{◌≡◌, sym, ap, ◌∙◌}

@@ -1,5 +1,4 @@
 -- `head_size` meets its contract.
-use borrow.Author.Rules.{rules}
 use native.Mathlib.Omega.{arith}
 use borrow.Author.Tests.{eq-eqb, ne_eqb}
 use Rattle.body_builder_histogram.proofs.heads.head_size.Goals as goal

@@ -1,5 +1,4 @@
 -- `put_firsts` meets its contract: nothing, or two puts in a row.
-use borrow.Author.Rules.{rules}
 use native.Mathlib.Omega.{arith}
 use mathlib.Core.Path.{refl}
 use Rattle.wal_types.specs.Deltas.{to_bits}

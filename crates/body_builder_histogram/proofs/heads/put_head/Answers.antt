@@ -1,5 +1,4 @@
 -- `put_head` meets its contract: the first id and timestamp, and two puts.
-use borrow.Author.Rules.{rules}
 use Rattle.body_builder_histogram.proofs.Fields.{firsts-room, head-laid}
 use Rattle.body_builder_histogram.proofs.heads.put_head.Goals as goal
 

@@ -1,5 +1,4 @@
 -- `lists_size` meets its contract: the sizes of spans and buckets added up.
-use borrow.Author.Rules.{rules}
 use native.Mathlib.Omega.{arith}
 use Rattle.body_format.specs.Calls.{lent_lists}
 use Rattle.body_builder_histogram.specs.Lent.{lent}

@@ -1,8 +1,4 @@
 -- `put_lists` meets its contract: the spans, and then the buckets.
-use borrow.Author.Rules.{rules}
-use Prim.Native.Nat.{ℕ}
-use mathlib.Core.List.{List}
-use Rattle.body_format.specs.Histograms.{Span, Lists}
 use Rattle.body_format.specs.Calls.{lent_lists}
 use Rattle.body_builder_histogram.specs.Lent.{lent}
 use Rattle.body_builder_histogram.proofs.Parts.{spans-room, buckets-room, lists-laid}

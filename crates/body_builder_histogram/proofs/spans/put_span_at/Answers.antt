@@ -1,5 +1,4 @@
 -- `put_span_at` meets its contract: there is room for the span, or nothing changes.
-use borrow.Author.Rules.{rules}
 use native.Mathlib.Omega.{arith}
 use mathlib.Core.Path.{◌≡◌, sym, ◌∙◌}
 use lib.ListN.{length}

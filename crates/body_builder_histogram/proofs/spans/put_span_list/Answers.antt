@@ -1,5 +1,4 @@
 -- `put_span_list` meets its contract: the count, and then the spans.
-use borrow.Author.Rules.{rules}
 use mathlib.Core.Path.{sym}
 use Rattle.body_builder_histogram.proofs.Laying.{list-room, list-laid, length-spans}
 use Rattle.body_builder_histogram.proofs.spans.put_span_list.Goals as goal

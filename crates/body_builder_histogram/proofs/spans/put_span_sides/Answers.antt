@@ -1,8 +1,6 @@
 -- `put_span_sides` meets its contract: one list, and then the other.
-use borrow.Author.Rules.{rules}
-use mathlib.Core.List.{List}
 use Rattle.body_format.specs.declared.Element.TheVariants as element
-use Rattle.body_format.specs.Histograms.{Span, Sides, join_spans}
+use Rattle.body_format.specs.Histograms.{join_spans}
 use Rattle.body_builder_histogram.specs.Lent.{sides}
 use Rattle.body_builder_histogram.proofs.Parts.{positive-room, negative-room, sides-laid}
 use Rattle.body_builder_histogram.proofs.spans.put_span_sides.Goals as goal

@@ -1,15 +1,12 @@
 -- `put_spans` meets its contract; the loop's invariant as for buckets.
 use borrow.Author.Rules.{rules}
 use native.Mathlib.Omega.{arith}
-use Prim.Native.Nat.{◌-◌}
 use lib.IntN.{pos}
-use lib.ListN.{length, get_or}
+use lib.ListN.{get_or}
 use mir.Facts.{to_z-of_z}
 use mir.Syntax.{w32}
 use mir.Val.{SFits}
-use Rattle.body_format.specs.declared.Element.TheVariants as element
-use Rattle.body_format.specs.Histograms.{join_spans}
-use Rattle.body_builder_histogram.proofs.Laying.{Laying, laying, laid, item_room, item_laid, length-spans, span-step}
+use Rattle.body_builder_histogram.proofs.Laying.{laying, laid, item_room, item_laid, length-spans, span-step}
 use Rattle.body_builder_histogram.proofs.spans.put_spans.Goals as goal
 
 pub loop-i-init : goal.loop-i-init

@@ -1,5 +1,4 @@
 -- `sides_are_bad` meets its contract: one side, or the other.
-use borrow.Author.Rules.{rules}
 use mathlib.Core.Path.{sym, ◌∙◌}
 use Rattle.body_builder_histogram.proofs.spans.sides_are_bad.Goals as goal
 

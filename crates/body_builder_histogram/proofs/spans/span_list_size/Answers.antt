@@ -1,5 +1,4 @@
 -- `span_list_size` meets its contract.
-use borrow.Author.Rules.{rules}
 use native.Mathlib.Omega.{arith}
 use Rattle.body_builder_histogram.proofs.Laying.{list-above, list-exact, length-spans}
 use Rattle.body_builder_histogram.proofs.spans.span_list_size.Goals as goal

@@ -1,5 +1,4 @@
 -- `span_sides_size` meets its contract: both sizes added up.
-use borrow.Author.Rules.{rules}
 use native.Mathlib.Omega.{arith}
 use Rattle.body_format.specs.declared.Element.TheVariants as element
 use Rattle.body_format.specs.Histograms.{join_spans}

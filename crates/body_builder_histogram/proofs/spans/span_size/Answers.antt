@@ -1,5 +1,5 @@
 -- `span_size` meets its contract: two fields.
-use borrow.Author.Rules.{rules, sfits_of}
+use borrow.Author.Rules.{sfits_of}
 use native.Mathlib.Omega.{arith}
 use mathlib.Core.Path.{◌∙◌}
 use mir.Facts.{to_z-of_z}

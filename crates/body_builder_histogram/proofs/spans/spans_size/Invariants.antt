@@ -1,13 +1,9 @@
 -- `spans_size` meets its contract; the loop's invariant as for buckets.
-use borrow.Author.Rules.{rules, sfits_of}
-use native.Mathlib.Omega.{arith}
 use Prim.Native.Nat.{◌-◌}
 use lib.ListN.{length}
-use mir.Facts.{to_z-of_z}
-use mir.Syntax.{w32}
 use Rattle.body_format.specs.declared.Element.TheVariants as element
 use Rattle.body_format.specs.Histograms.{join_spans}
-use Rattle.body_builder_histogram.proofs.Laying.{Sizing, sizing, sized_more, sized-all, length-spans, span-step}
+use Rattle.body_builder_histogram.proofs.Laying.{Sizing}
 use Rattle.body_builder_histogram.proofs.spans.spans_size.Given as goal
 
 abbrev pub invariant-loop-i : goal.invariant-loop-i

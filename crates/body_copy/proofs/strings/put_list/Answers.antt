@@ -1,5 +1,4 @@
 -- `put_list` meets its contract: half the number, and then the strings.
-use borrow.Author.Rules.{rules}
 use Rattle.body_copy.proofs.Copying.{list-room, list-laid}
 use Rattle.body_copy.proofs.strings.put_list.Goals as goal
 

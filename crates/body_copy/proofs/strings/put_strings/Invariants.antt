@@ -1,9 +1,6 @@
 -- `put_strings` meets its contract. The loop's invariant, `Laying`: once the strings that are left
 -- are written, the slice is as it is to be.
-use borrow.Author.Rules.{rules}
-use native.Mathlib.Omega.{arith}
-use mathlib.Core.Path.{◌≡◌, refl}
-use Rattle.body_copy.proofs.Copying.{Laying, string-room, string-laid, strings-laid}
+use Rattle.body_copy.proofs.Copying.{Laying}
 use Rattle.body_copy.proofs.strings.put_strings.Given as goal
 
 abbrev pub invariant-loop-left : goal.invariant-loop-left

@@ -1,5 +1,4 @@
 -- `string_size` meets its contract: the string is there, or not.
-use borrow.Author.Rules.{rules}
 use native.Mathlib.Omega.{arith}
 use Rattle.body_fields.specs.Laws.{string-told, string_faulty}
 use Rattle.body_copy.proofs.Measuring.{string-size_is, string-size-bad, string_small}

@@ -1,6 +1,5 @@
 -- `strings_size` meets its contract. The loop's invariant, `Sizing`: the bytes so far and those of the
 -- strings that are left make the whole.
-use borrow.Author.Rules.{rules}
 use native.Mathlib.Omega.{arith}
 use Rattle.std.specs.Prelude.{◌≡◌, refl, List, ℕ, ◌<◌}
 use Rattle.body_format.specs.Fields.{string_at}

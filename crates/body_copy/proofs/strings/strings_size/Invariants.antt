@@ -1,10 +1,6 @@
 -- `strings_size` meets its contract. The loop's invariant, `Sizing`: the bytes so far and those of the
 -- strings that are left make the whole.
-use borrow.Author.Rules.{rules}
-use native.Mathlib.Omega.{arith}
-use mathlib.Core.Path.{◌≡◌, refl, subst}
-use Rattle.body_copy.specs.declared.strings.Measured.TheVariants as measured
-use Rattle.body_copy.proofs.Measuring.{Sizing, SizeTold, size-turn, size-done}
+use Rattle.body_copy.proofs.Measuring.{Sizing}
 use Rattle.body_copy.proofs.strings.strings_size.Given as goal
 
 abbrev pub invariant-loop-left : goal.invariant-loop-left

@@ -1,5 +1,4 @@
 -- `bucket_measured` meets its contract: the bucket is there, or not.
-use borrow.Author.Rules.{rules}
 use native.Mathlib.Omega.{arith}
 use Rattle.body_format.specs.declared.Element.TheVariants as element
 use Rattle.body_format.specs.Histograms.{bucket_at}

@@ -1,5 +1,4 @@
 -- `copy_bucket` meets its contract: the bucket is there, or not.
-use borrow.Author.Rules.{rules}
 use Rattle.body_format.specs.declared.Element.TheVariants as element
 use Rattle.body_format.specs.Histograms.{bucket_at}
 use Rattle.body_copy_histogram.proofs.Elements.{bucket-got, bucket-fault, copied-got, copied_none}

@@ -1,5 +1,4 @@
 -- `copy_item` meets its contract, by the element.
-use borrow.Author.Rules.{rules}
 use Rattle.body_copy_histogram.proofs.Elements.{copied_as}
 use Rattle.body_copy_histogram.proofs.items.copy_item.Goals as goal
 

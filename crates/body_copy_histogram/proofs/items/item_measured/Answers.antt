@@ -1,5 +1,4 @@
 -- `item_measured` meets its contract, by the element.
-use borrow.Author.Rules.{rules}
 use Rattle.body_copy_histogram.proofs.Elements.{measured_as}
 use Rattle.body_copy_histogram.proofs.items.item_measured.Goals as goal
 

@@ -1,10 +1,9 @@
 -- `items_size` meets its contract. The loop's invariant, `Sizing`: the bytes so far and those of the
 -- elements that are left make the whole.
-use borrow.Author.Rules.{rules}
 use native.Mathlib.Omega.{arith}
 use mathlib.Core.Path.{◌≡◌, ap}
 use Rattle.body_copy_histogram.specs.declared.items.Measured.{Measured}
-use Rattle.body_copy_histogram.proofs.Elements.{Sizing, size-again, size_above, size-done}
+use Rattle.body_copy_histogram.proofs.Elements.{size-again, size_above, size-done}
 use Rattle.body_copy_histogram.proofs.items.items_size.Goals as goal
 
 pub loop-left-init : goal.loop-left-init

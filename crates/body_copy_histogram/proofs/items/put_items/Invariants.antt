@@ -1,9 +1,6 @@
 -- `put_items` meets its contract. The loop's invariant, `Laying`: once the elements that are left are
 -- written, the slice is as it is to be.
-use borrow.Author.Rules.{rules}
-use native.Mathlib.Omega.{arith}
-use mathlib.Core.Path.{◌≡◌, refl}
-use Rattle.body_copy_histogram.proofs.Elements.{Laying, item_laid, items-laid}
+use Rattle.body_copy_histogram.proofs.Elements.{Laying}
 use Rattle.body_copy_histogram.proofs.items.put_items.Given as goal
 
 abbrev pub invariant-loop-left : goal.invariant-loop-left

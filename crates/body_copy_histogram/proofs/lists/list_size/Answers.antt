@@ -1,5 +1,4 @@
 -- `list_size` meets its contract: the count, and then the elements.
-use borrow.Author.Rules.{rules}
 use native.Mathlib.Omega.{arith}
 use Rattle.body_builder.specs.Laws.Additions.{exact}
 use Rattle.body_copy_histogram.proofs.Parts.{list_parts, parts_sized}

@@ -1,5 +1,4 @@
 -- `lists_size` meets its contract: the spans, and the buckets.
-use borrow.Author.Rules.{rules}
 use native.Mathlib.Omega.{arith}
 use Rattle.body_copy_histogram.proofs.Parts.{lists_parts, parts_sized}
 use Rattle.body_copy_histogram.proofs.lists.lists_size.Goals as goal

@@ -1,5 +1,4 @@
 -- `put_list` meets its contract: the count, and then the elements.
-use borrow.Author.Rules.{rules}
 use Rattle.body_copy_histogram.proofs.Parts.{list_parts, first-put, second-room, both_laid}
 use Rattle.body_copy_histogram.proofs.lists.put_list.Goals as goal
 

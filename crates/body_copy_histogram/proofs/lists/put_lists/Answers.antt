@@ -1,5 +1,4 @@
 -- `put_lists` meets its contract: the spans, and then the buckets.
-use borrow.Author.Rules.{rules}
 use Rattle.body_copy_histogram.proofs.Parts.{lists_parts, first-room, second-room, both_laid}
 use Rattle.body_copy_histogram.proofs.lists.put_lists.Goals as goal
 

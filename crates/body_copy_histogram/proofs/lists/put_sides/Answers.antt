@@ -1,5 +1,4 @@
 -- `put_sides` meets its contract: two lists.
-use borrow.Author.Rules.{rules}
 use Rattle.body_copy_histogram.proofs.Parts.{sides_parts, first-room, second-room, both_laid}
 use Rattle.body_copy_histogram.proofs.lists.put_sides.Goals as goal
 

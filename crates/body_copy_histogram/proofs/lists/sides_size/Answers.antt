@@ -1,5 +1,4 @@
 -- `sides_size` meets its contract: two lists.
-use borrow.Author.Rules.{rules}
 use native.Mathlib.Omega.{arith}
 use Rattle.body_copy_histogram.proofs.Parts.{sides_parts, parts_sized}
 use Rattle.body_copy_histogram.proofs.lists.sides_size.Goals as goal

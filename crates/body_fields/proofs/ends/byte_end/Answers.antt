@@ -1,5 +1,4 @@
 -- `byte_end` meets its contract: on from a place, or the fault that was met before.
-use borrow.Author.Rules.{rules}
 use Rattle.body_format.specs.Fields.{byte_at}
 use Rattle.body_fields.proofs.ends.byte_end.Goals as goal
 

@@ -1,5 +1,4 @@
 -- `fixed_end` meets its contract: on from a place, or the fault that was met before.
-use borrow.Author.Rules.{rules}
 use Rattle.body_format.specs.Fields.{fixed_at}
 use Rattle.body_fields.proofs.ends.fixed_end.Goals as goal
 

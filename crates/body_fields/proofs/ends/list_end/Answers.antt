@@ -1,5 +1,4 @@
 -- `list_end` meets its contract: on from a place, or the fault that was met before.
-use borrow.Author.Rules.{rules}
 use Rattle.body_format.specs.Fields.{string_list_at}
 use Rattle.body_fields.specs.Laws.{list-got, list-fault}
 use Rattle.body_fields.proofs.ends.list_end.Goals as goal

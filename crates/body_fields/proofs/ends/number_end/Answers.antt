@@ -1,5 +1,4 @@
 -- `number_end` meets its contract: the place after the number, or its fault.
-use borrow.Author.Rules.{rules}
 use Rattle.body_fields.specs.Laws.{number-got, number-fault}
 use Rattle.body_fields.proofs.ends.number_end.Goals as goal
 

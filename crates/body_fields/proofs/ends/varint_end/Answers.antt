@@ -1,5 +1,4 @@
 -- `varint_end` meets its contract: on from a place, or the fault that was met before.
-use borrow.Author.Rules.{rules}
 use Rattle.body_format.specs.Fields.{varint_at}
 use Rattle.body_fields.specs.Laws.{signed-got, signed-fault}
 use Rattle.body_fields.proofs.ends.varint_end.Goals as goal

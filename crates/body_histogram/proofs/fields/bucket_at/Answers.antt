@@ -1,5 +1,4 @@
 -- `bucket_at` meets its contract: by the bucket kind.
-use borrow.Author.Rules.{rules}
 use mathlib.Core.Path.{ap, ◌∙◌}
 use Rattle.body_format.specs.Reading.{answer_bucket}
 use Rattle.body_histogram.proofs.Decoding.{bucket-whole, bucket_float}

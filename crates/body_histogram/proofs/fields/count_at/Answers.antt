@@ -1,5 +1,4 @@
 -- `count_at` meets its contract: by the bucket kind.
-use borrow.Author.Rules.{rules}
 use mathlib.Core.Path.{◌∙◌}
 use Rattle.body_histogram.proofs.Decoding.{count-whole, count_float}
 use Rattle.body_histogram.proofs.fields.count_at.Goals as goal

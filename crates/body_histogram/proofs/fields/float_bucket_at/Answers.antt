@@ -1,5 +1,4 @@
 -- `float_bucket_at` meets its contract: eight bytes.
-use borrow.Author.Rules.{rules}
 use Rattle.body_fields.specs.Laws.{number-got, number-fault}
 use Rattle.body_histogram.proofs.Decoding.{float_got, float_fault}
 use Rattle.body_histogram.proofs.fields.float_bucket_at.Goals as goal

@@ -1,5 +1,4 @@
 -- `uint32_at` meets its contract: a uvarint that has 32 bits, or more.
-use borrow.Author.Rules.{rules}
 use mathlib.Core.Path.{sym, ap}
 use Rattle.body_fields.specs.Readings.{number_read}
 use Rattle.body_fields.specs.Laws.{number-got, number-fault}

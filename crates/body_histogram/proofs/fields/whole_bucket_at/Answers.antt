@@ -1,5 +1,4 @@
 -- `whole_bucket_at` meets its contract: a varint, by its zigzag.
-use borrow.Author.Rules.{rules}
 use Prim.Native.Nat.{ℕ}
 use mathlib.Core.Path.{ap, ◌∙◌}
 use Rattle.wal_types.specs.Terms.{offset}

@@ -1,7 +1,6 @@
 -- `zigzag_back_32` meets its contract: half of u, or −1 − half of u.
-use borrow.Author.Rules.{rules}
 use native.Mathlib.Omega.{arith}
-use Prim.Native.Nat.{◌/◌, ◌^◌, ◌<◌}
+use Prim.Native.Nat.{◌/◌}
 use mathlib.Core.Path.{◌∙◌}
 use borrow.Author.Tests.{eq-eqb, ne_eqb}
 use mir.Facts.{to_z-of_z, to_z_pos}

@@ -1,5 +1,4 @@
 -- `bucket_end` meets its contract: by the bucket kind.
-use borrow.Author.Rules.{rules}
 use mathlib.Core.Path.{◌∙◌}
 use Rattle.body_histogram.proofs.Walking.{bucket-end-whole, bucket-end_float}
 use Rattle.body_histogram.proofs.lists.bucket_end.Goals as goal

@@ -1,5 +1,4 @@
 -- `item_end` meets its contract: a span, or a bucket.
-use borrow.Author.Rules.{rules}
 use mathlib.Core.Path.{◌∙◌}
 use Rattle.body_histogram.proofs.Walking.{item_end-span, item_end-bucket}
 use Rattle.body_histogram.proofs.lists.item_end.Goals as goal

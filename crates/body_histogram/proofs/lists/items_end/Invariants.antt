@@ -1,11 +1,8 @@
 -- `items_end` meets its contract: the loop's invariant is that the
 -- elements that are left end where all of them do.
-use borrow.Author.Rules.{rules}
-use native.Mathlib.Omega.{arith}
-use mathlib.Core.Path.{◌≡◌, ◌∙◌, subst}
+use mathlib.Core.Path.{◌≡◌}
 use Rattle.body_format.specs.Histograms.{items_at}
 use Rattle.body_fields.specs.Ends.{end_of}
-use Rattle.body_histogram.proofs.Walking.{Turned, turn, turned-all}
 use Rattle.body_histogram.proofs.lists.items_end.Given as goal
 
 abbrev pub invariant-loop-left : goal.invariant-loop-left

@@ -1,5 +1,4 @@
 -- `list_at` meets its contract: its count, and then its elements.
-use borrow.Author.Rules.{rules}
 use mathlib.Core.Path.{sym, ◌∙◌}
 use Rattle.body_fields.specs.Laws.{number-got, number-fault}
 use Rattle.body_histogram.proofs.Walking.{list_1, list_2, list_all}

@@ -1,5 +1,4 @@
 -- `lists_at` meets its contract: spans, and then buckets.
-use borrow.Author.Rules.{rules}
 use Rattle.body_histogram.proofs.Walking.{sides-got, sides-fault, lists_1, lists_2, lists-all}
 use Rattle.body_histogram.proofs.lists.lists_at.Goals as goal
 

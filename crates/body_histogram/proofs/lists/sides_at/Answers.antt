@@ -1,5 +1,4 @@
 -- `sides_at` meets its contract: a list for each side.
-use borrow.Author.Rules.{rules}
 use Rattle.body_histogram.proofs.Walking.{list-got, list-fault, sides_1, sides_2, sides_all}
 use Rattle.body_histogram.proofs.lists.sides_at.Goals as goal
 

@@ -1,5 +1,4 @@
 -- `span_end` meets its contract: after the span, or its fault.
-use borrow.Author.Rules.{rules}
 use Rattle.body_histogram.proofs.Walking.{span-ends, span_stops}
 use Rattle.body_histogram.proofs.lists.span_end.Goals as goal
 

@@ -1,8 +1,6 @@
 -- `count_entries` meets its contract. The loop's invariant: the entries counted and those that are
 -- left make the whole list.
-use borrow.Author.Rules.{rules}
 use native.Mathlib.Omega.{arith}
-use Prim.Native.Nat.{◌-◌}
 use Rattle.std.specs.Prelude.{◌≡◌, List, ℕ, ◌<◌, length}
 use Rattle.body_format.specs.Entries.{BodyType, entry_at}
 use Rattle.body_fields.specs.declared.Place.{Place}

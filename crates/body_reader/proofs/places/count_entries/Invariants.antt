@@ -1,13 +1,9 @@
 -- `count_entries` meets its contract. The loop's invariant: the entries counted and those that are
 -- left make the whole list.
-use borrow.Author.Rules.{rules}
-use native.Mathlib.Omega.{arith}
 use Prim.Native.Nat.{◌-◌}
-use mathlib.Core.Path.{subst}
 use lib.ListN.{length}
-use Rattle.body_fields.specs.declared.Place.TheVariants.{At}
 use Rattle.body_reader.specs.Layouts.{type_in}
-use Rattle.body_reader.proofs.Reading.{Counting, counting, end-turn, count-done, EndTold}
+use Rattle.body_reader.proofs.Reading.{Counting}
 use Rattle.body_reader.proofs.places.count_entries.Given as goal
 
 abbrev pub invariant-loop-at : goal.invariant-loop-at

@@ -1,5 +1,4 @@
 -- `entries_begin` meets its contract: by rows or without.
-use borrow.Author.Rules.{rules}
 use Rattle.body_rows.specs.Laws.{rows-rows}
 use Rattle.body_plain.specs.Laws.{plain-plain}
 use Rattle.body_reader.proofs.places.entries_begin.Goals as goal

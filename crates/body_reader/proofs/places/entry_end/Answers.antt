@@ -1,5 +1,4 @@
 -- `entry_end` meets its contract: by rows, without, or a histogram.
-use borrow.Author.Rules.{rules}
 use Rattle.body_reader.proofs.places.entry_end.Goals as goal
 
 pub returns-in-Rows : goal.returns-in-Rows

@@ -1,5 +1,4 @@
 -- `check_samples` meets its contract: where the rows begin, and their number.
-use borrow.Author.Rules.{rules}
 use mathlib.Core.Path.{◌∙◌}
 use Rattle.body_reader.proofs.Reading.{place_at, place-fault, samples-all, samples-fault, samples_inside}
 use Rattle.body_reader.proofs.samples.check_samples.Goals as goal

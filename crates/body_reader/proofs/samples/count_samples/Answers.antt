@@ -1,7 +1,5 @@
 -- `count_samples` meets its contract, as `count_entries` does.
-use borrow.Author.Rules.{rules}
 use native.Mathlib.Omega.{arith}
-use Prim.Native.Nat.{◌-◌}
 use Rattle.std.specs.Prelude.{◌≡◌, List, ℕ, ◌<◌, length}
 use Rattle.body_format.specs.Entries.{BodyType, samples, entry_at}
 use Rattle.body_fields.specs.declared.Place.{Place}

@@ -1,12 +1,8 @@
 -- `count_samples` meets its contract, as `count_entries` does.
-use borrow.Author.Rules.{rules}
-use native.Mathlib.Omega.{arith}
 use Prim.Native.Nat.{◌-◌}
-use mathlib.Core.Path.{subst}
 use lib.ListN.{length}
 use Rattle.body_format.specs.Entries.{samples}
-use Rattle.body_fields.specs.declared.Place.TheVariants.{At}
-use Rattle.body_reader.proofs.Reading.{Counting, counting, end-turn, count-done, EndTold}
+use Rattle.body_reader.proofs.Reading.{Counting}
 use Rattle.body_reader.proofs.samples.count_samples.Given as goal
 
 abbrev pub invariant-loop-at : goal.invariant-loop-at

@@ -1,5 +1,4 @@
 -- `bucket_kind` meets its contract: its type, and the kind of histograms.
-use borrow.Author.Rules.{rules}
 use Rattle.body_reader.specs.declared.tags.KindRead.TheVariants as kind
 use Rattle.body_reader.proofs.Types.{kind_layout, kind-refused}
 use Rattle.body_reader.proofs.tags.bucket_kind.Goals as goal

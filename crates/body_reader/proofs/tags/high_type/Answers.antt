@@ -2,7 +2,7 @@
 use native.Mathlib.Omega.{arith}
 use mathlib.Core.Path.{sym, ap}
 use Rattle.body_format.specs.Entries.{body_type_of}
-use Rattle.body_format.specs.Laws.Types.{type_unknown}
+use Rattle.body_format.proofs.Laws.Types.{type_unknown}
 use Rattle.body_reader.specs.Layouts.{type_found}
 use Rattle.body_reader.proofs.tags.high_type.Goals as goal
 

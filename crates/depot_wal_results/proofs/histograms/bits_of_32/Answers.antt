@@ -1,5 +1,5 @@
 -- `bits_of_32` meets its contract: the number stays, and its 64 bits are those of `bits_of`.
-use borrow.Author.Rules.{rules, sfits_of}
+use borrow.Author.Rules.{sfits_of}
 use native.Mathlib.Omega.{arith}
 use mathlib.Core.Path.{◌∙◌}
 use mir.Facts.{to_z-of_z}

@@ -1,5 +1,4 @@
 -- `histogram_result` meets its contract: each answer has its number and its values.
-use borrow.Author.Rules.{rules}
 use mathlib.Core.Path.{refl, ap}
 use mathlib.Core.List.{[], ◌∷◌}
 use Rattle.wal_types.specs.declared.Offset.{Offset}

@@ -4,7 +4,7 @@ use native.Mathlib.Omega.{arith}
 use mathlib.Core.Path.{sym, ap, subst}
 use Rattle.segment_format.specs.declared.ReadAnswer.{ReadAnswer}
 use Rattle.segment_format.specs.Good.{good_after}
-use Rattle.segment_format.specs.Laws.Counted.{Counts}
+use Rattle.segment_format.proofs.Laws.Counted.{Counts}
 use Rattle.depot_wal_results.specs.Segments.{good_of, good_out}
 use Rattle.depot_wal_segments.proofs.segments.count_read.Goals as goal
 

@@ -9,7 +9,7 @@ use Rattle.wal_types.specs.Versions.{version_of}
 use Rattle.segment_format.specs.Sums.{version_sum, table_sum}
 use Rattle.segment_format.specs.Good.{GoodReader}
 use Rattle.depot_wal_results.specs.Segments.{read_code, read_out, good_of, good_out, reader_for}
-use Rattle.segment_format.specs.Instances.{none_lent}
+use Rattle.segment_format.proofs.Instances.{none_lent}
 use Rattle.depot_wal_segments.proofs.segments.depot_wal_read.Goals as goal
 
 pub returns : goal.returns

@@ -9,7 +9,7 @@ use Rattle.wal_types.specs.Versions.{version_of}
 use Rattle.segment_format.specs.Sums.{version_sum, table_sum}
 use Rattle.segment_format.specs.Calls.{Writer}
 use Rattle.depot_wal_results.specs.Segments.{write_code, write_out, writer_for}
-use Rattle.segment_format.specs.Instances.{none_lent}
+use Rattle.segment_format.proofs.Instances.{none_lent}
 use Rattle.depot_wal_segments.proofs.segments.depot_wal_write.Goals as goal
 
 pub returns : goal.returns

@@ -6,7 +6,7 @@ use Rattle.crc32c_format.specs.Laws.{whole_part}
 use Rattle.segment_format.specs.declared.Read.{Read}
 use Rattle.segment_format.specs.Good.{good_after}
 use Rattle.segment_format.specs.Sums.{table_sum}
-use Rattle.segment_format.specs.Laws.Counted.{Counts, read-counts}
+use Rattle.segment_format.proofs.Laws.Counted.{Counts, read-counts}
 use Rattle.depot_wal_results.specs.Segments.{read_code, read_out, good_of, good_out}
 use Rattle.depot_wal_segments.proofs.segments.read_to_out.Goals as goal
 

@@ -1,6 +1,6 @@
 -- `shown_at` meets its contract: a row is its five numbers.
 use native.Mathlib.Omega.{arith}
-use Rattle.report_format.specs.Laws.Rows.{line_read}
+use Rattle.report_format.proofs.Laws.Rows.{line_read}
 use Rattle.reporting.proofs.lines.shown_at.Goals as goal
 
 pub returns : goal.returns

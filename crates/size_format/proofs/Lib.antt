@@ -1,0 +1,5 @@
+pub mod Laws
+pub mod Theorems
+pub mod StandIns
+pub mod Instances
+pub mod Examples
