@@ -4,24 +4,16 @@
 // changes no byte and returns the place given; otherwise it returns the place after its last byte.
 #![tactic(auto)]
 
-ghost use Rattle.std.specs.Prelude.{◌≡◌, ◌+◌, ◌≤◌, ◌<◌, ◌^◌, length, drop};
-ghost use Rattle.std.proofs.lemmas.List.Edits.{sets};
+ghost use Rattle.std.specs.Prelude.{◌≡◌, ◌+◌, ◌≤◌, ◌<◌, ◌^◌, length, take, drop, MatchOption};
 ghost use Rattle.byte_copy.specs.Put.{put_at, put_end};
-ghost use Rattle.big_endian.specs.Fixed.{be4, be8, read_be4, read_be8, whole_be4};
+ghost use Rattle.big_endian.specs.Fixed.{be4, be8, read_be8, whole_be4};
 
 // Encodes x as eight bytes at a place of buf.
 pub fn put_be8(buf: &mut [u8], at: usize, x: u64) -> usize
     ensures value { result ≡ put_end buf.old at (be8 x) }
     ensures buf_after { buf.new ≡ put_at buf.old at (be8 x) }
 {
-    if buf.len() < at {
-        return at;
-    }
-    if buf.len() - at < 8 {
-        return at;
-    }
-    let middle = write_half(buf, at, x / 0x1_0000_0000);
-    write_half(buf, middle, x)
+    put(buf, at, x.to_be_bytes())
 }
 
 // Encodes the four lowest bytes of x at a place of buf.
@@ -29,45 +21,31 @@ pub fn put_be4(buf: &mut [u8], at: usize, x: u64) -> usize
     ensures value { result ≡ put_end buf.old at (be4 x) }
     ensures buf_after { buf.new ≡ put_at buf.old at (be4 x) }
 {
-    if buf.len() < at {
-        return at;
-    }
-    if buf.len() - at < 4 {
-        return at;
-    }
-    write_half(buf, at, x)
+    let low = (x % 0x1_0000_0000) as u32;
+    put(buf, at, low.to_be_bytes())
 }
 
-// Writes the four lowest bytes of x at a place with room for them, and returns the place after.
-fn write_half(buf: &mut [u8], at: usize, x: u64) -> usize
-    requires { at + 4 ≤ length buf.old }
-    ensures value { result ≡ at + 4 }
-    ensures buf_after { buf.new ≡ sets buf.old at (be4 x) }
+// Stores bytes at a place of buf.
+fn put<const N: usize>(buf: &mut [u8], at: usize, bytes: [u8; N]) -> usize
+    ensures value { result ≡ put_end buf.old at bytes.entry }
+    ensures buf_after { buf.new ≡ put_at buf.old at bytes.entry }
 {
-    let second = at + 1;
-    let third = at + 2;
-    let fourth = at + 3;
-    buf[at] = (x / 0x100_0000 % 256) as u8;
-    buf[second] = (x / 0x1_0000 % 256) as u8;
-    buf[third] = (x / 0x100 % 256) as u8;
-    buf[fourth] = (x % 256) as u8;
-    at + 4
+    if buf.len() < at || buf.len() - at < N {
+        return at;
+    }
+    let end = at + N;
+    buf[at..end].copy_from_slice(&bytes);
+    end
 }
 
 // Decodes the eight bytes at a place of buf; 0 where there are fewer.
 pub fn get_be8(buf: &[u8], at: usize) -> u64
     ensures { result ≡ read_be8 (drop at buf.now) }
 {
-    if buf.len() < at {
-        return 0;
+    match bytes_at(buf, at) {
+        Some(bytes) => u64::from_be_bytes(*bytes),
+        None => 0,
     }
-    if buf.len() - at < 8 {
-        return 0;
-    }
-    let middle = at + 4;
-    let high = read_half(buf, at);
-    let low = read_half(buf, middle);
-    high * 0x1_0000_0000 + low
 }
 
 // Decodes the four bytes at a place of buf; 0 where there are fewer.
@@ -75,27 +53,20 @@ pub fn get_be4(buf: &[u8], at: usize) -> u64
     ensures value { result ≡ whole_be4 (drop at buf.now) }
     ensures upper_bound { result < 2 ^ 32 }
 {
-    if buf.len() < at {
-        return 0;
+    match bytes_at(buf, at) {
+        Some(bytes) => u64::from(u32::from_be_bytes(*bytes)),
+        None => 0,
     }
-    if buf.len() - at < 4 {
-        return 0;
-    }
-    read_half(buf, at)
 }
 
-// Decodes the four bytes at a place that has them.
-fn read_half(buf: &[u8], at: usize) -> u64
-    requires { at + 4 ≤ length buf.now }
-    ensures value { result ≡ read_be4 (drop at buf.now) }
-    ensures upper_bound { result < 2 ^ 32 }
+// The N bytes at a place of buf, where they are. The two tests are one branch; `get(at..)?` makes
+// two flags of them, which took a row with short deltas a sixth longer.
+fn bytes_at<const N: usize>(buf: &[u8], at: usize) -> Option<&[u8; N]>
+    ensures { MatchOption result (length buf.now < at + N)
+        (λ y. (at + N ≤ length buf.now) × (y.now ≡ take N (drop at buf.now))) }
 {
-    let second = at + 1;
-    let third = at + 2;
-    let fourth = at + 3;
-    let a = buf[at] as u64;
-    let b = buf[second] as u64;
-    let c = buf[third] as u64;
-    let d = buf[fourth] as u64;
-    a * 0x100_0000 + b * 0x1_0000 + c * 0x100 + d
+    if buf.len() < at || buf.len() - at < N {
+        return None;
+    }
+    buf[at..].first_chunk()
 }

@@ -1,15 +1,7 @@
 -- How many bytes rows and lists of strings take, and the loops over the lengths.
-use mathlib.Core.Path.{◌≡◌, refl, sym, ap, ap₂, ◌∙◌}
-use mathlib.Core.Bool.{Bool, true, false, cond, ◌||◌, not}
-use mathlib.Core.List.{List, [], ◌∷◌, ◌++◌}
-use Prim.Native.Nat.{ℕ, suc, ◌+◌, ◌/◌, ◌%◌, ◌≤◌, ◌<◌}
-use native.Mathlib.Omega.{arith}
-use native.Mathlib.Numerals.{add-one}
-use borrow.Author.Tests.{ltb-true, eq-eqb, ne_eqb, eqb-true, eqb-false}
-use lib.IntN.{ℤ}
-use lib.Dec.{ltb, eqb}
-use lib.ListN.{length, get_or, drop, set, drop_of_length-le, length-drop, length-set}
-use lib.Seq.{drop-cons, sets}
+use Rattle.std.proofs.Common.{◌≡◌, refl, sym, ap, ap₂, ◌∙◌, Bool, true, false, cond, ◌||◌, not, List, [], ◌∷◌, ◌++◌, ℕ, suc, ◌+◌, ◌/◌, ◌%◌, ◌≤◌, ◌<◌, arith, add-one, ltb-true, eq-eqb, ne_eqb, eqb-true, ℤ, ltb, eqb, length, get_or, drop, set, drop_of_length-le, length-drop, length-set, drop-cons}
+use Rattle.std.proofs.lemmas.Bool.{eqb-false}
+use Rattle.std.proofs.lemmas.List.Edits.{sets}
 use Rattle.wal_types.specs.Deltas.{minus, to_bits, int_from_bits}
 use Rattle.byte_copy.specs.Put.{put_at, put_end}
 use Rattle.uvarint.specs.Uvarint.{uvarint}
@@ -17,16 +9,17 @@ use Rattle.varint.specs.Varint.{zigzag, varint}
 use Rattle.uvarint.specs.UvarintLaws.{one_group, length-at-least_1}
 use Rattle.big_endian.specs.Fixed.{be8, read_be8}
 use Rattle.big_endian.specs.FixedLaws.{length-be8}
-use Rattle.body_format.specs.Entries.{series_entry, exemplar_entry, metadata_entry}
+use Rattle.body_format.specs.Entries.{series_entry, sample_entry, tombstone_entry, exemplar_entry, metadata_entry}
 use Rattle.body_format.specs.Building.{strings_bytes, string_list_bytes, cut_strings, total, bad_list, row_bytes, entry_bytes}
 use Rattle.body_format.specs.Heads.{delta_bytes}
 use Rattle.body_format.proofs.Laws.Fields.{length-list}
 use Rattle.body_format.proofs.Laws.Heads.{delta_bytes_lem}
-use Rattle.body_format.proofs.Laws.Strings.{length_cut, length-cut-strings, row_first, row-later, length-row-first, length-row-later, length-series, length_exemplar, length_metadata}
+use Rattle.body_format.proofs.Laws.Strings.{length_cut, length-cut-strings, row_first, row-later, length-row-first, length-row-later, length-series, length-tombstone, length_exemplar, length_metadata}
 use Rattle.body_builder.specs.declared.admission.Deltas.{Deltas}
-use Rattle.body_builder.specs.Sizes.{row_size, row_tail, deltas_in, zigzags_of, heads, list_size}
+use Rattle.body_builder.specs.Sizes.{row_size, tombstone_size, row_tail, deltas_in, zigzags_of, heads, list_size}
 use Rattle.body_builder.specs.Laws.Putting.{Put, put_last, put_first, room_then, put_then}
-use Rattle.body_builder.specs.Laws.Additions.{Sized, exact, above, both_sized}
+use Rattle.body_builder.specs.Laws.Additions.{Sized, exact, above, both_sized, Measures}
+use Rattle.std.specs.Prelude.{Option, Some}
 
 -- ---- deltas of one byte each
 
@@ -171,20 +164,39 @@ module _ (b d₁ d₂ : List ℕ) (u p q id time v : ℕ) (first : u ≡ 1) (roo
       (put_then b d₁ u p (be8 id) (be8 time ++ row_tail 0 0 v) room₀ d₃ r one
       (put_then d₁ d₂ p q (be8 time) (row_tail 0 0 v) room₁ d₃ r two three))
 
+-- ---- the sizes of entries without strings
+
+pub sample_sized : (b : List ℕ) (u id : ℕ) (time : ℤ) (v : ℕ) (row : Deltas) (n : ℕ) → row ≡ zigzags_of (deltas_in b u id (to_bits time))
+    → n ≡ row_size u row.id row.time → Measures (Some n) false (length (entry_bytes b u (sample_entry id time v)))
+unfolding entry_bytes
+sample_sized b u id time v row n e h = (refl, λ _. exact (h ∙ row_sized b u id (to_bits time) v row e))
+
+pub tombstone_sized : (b : List ℕ) (u id : ℕ) (min max : ℤ) (n : ℕ) → n ≡ tombstone_size min max
+    → Measures (Some n) false (length (entry_bytes b u (tombstone_entry id min max)))
+tombstone_sized b u id min max n h = (refl, λ _. exact (omega (arith, h, length-tombstone b u id min max)))
+
 -- ---- the sizes of entries with strings
 
-module _ (b : List ℕ) (u : ℕ) (strings lengths : List ℕ) (list : ℕ) (e : list ≡ list_size (length strings) lengths)
-    (good : bad_list strings lengths ≡ false) where
-  listed : Sized list (length (string_list_bytes (cut_strings strings lengths)))
-  listed = rw e (list-sized strings lengths (good-sum strings lengths good))
+pub listed : (strings lengths : List ℕ) (list : ℕ) → bad_list strings lengths ≡ false → list ≡ list_size (length strings) lengths
+    → Sized list (length (string_list_bytes (cut_strings strings lengths)))
+listed strings lengths list good e = rw e (list-sized strings lengths (good-sum strings lengths good))
 
-  pub series-sized : (id : ℕ) → Sized (8 + list) (length (entry_bytes b u (series_entry id (cut_strings strings lengths))))
-  series-sized id = rw (length-series b u id (cut_strings strings lengths)) (both_sized (exact refl) listed)
+-- n bytes, and a list that is not bad
+pub with_list : (strings lengths : List ℕ) (n list : ℕ) → false ≡ bad_list strings lengths → list ≡ list_size (length strings) lengths
+    → Measures (Some (n + list)) (bad_list strings lengths) (n + length (string_list_bytes (cut_strings strings lengths)))
+with_list strings lengths n list good e = (good, λ h. both_sized (exact refl) (listed strings lengths list h e))
 
-  pub exemplar_sized : (id : ℕ) (time : ℤ) (v row : ℕ) → row ≡ length (row_bytes b u id (to_bits time) v)
-      → Sized (row + list) (length (entry_bytes b u (exemplar_entry id time v (cut_strings strings lengths))))
-  exemplar_sized id time v row h = rw (length_exemplar b u id time v (cut_strings strings lengths), ← h) (both_sized (exact refl) listed)
+module _ (b : List ℕ) (u : ℕ) (strings lengths : List ℕ) (size : Option ℕ) where
+  pub series-sized : (id : ℕ) → Measures size (bad_list strings lengths) (8 + length (string_list_bytes (cut_strings strings lengths)))
+      → Measures size (bad_list strings lengths) (length (entry_bytes b u (series_entry id (cut_strings strings lengths))))
+  series-sized id h = rw (length-series b u id (cut_strings strings lengths)) h
 
-  pub metadata_sized : (id m head : ℕ) → head ≡ length (uvarint id) + 1
-      → Sized (head + list) (length (entry_bytes b u (metadata_entry id m (cut_strings strings lengths))))
-  metadata_sized id m head h = rw (length_metadata b u id m (cut_strings strings lengths), ← h) (both_sized (exact refl) listed)
+  pub exemplar_sized : (id : ℕ) (time : ℤ) (v : ℕ) (row : Deltas) → row ≡ zigzags_of (deltas_in b u id (to_bits time))
+      → Measures size (bad_list strings lengths) (row_size u row.id row.time + length (string_list_bytes (cut_strings strings lengths)))
+      → Measures size (bad_list strings lengths) (length (entry_bytes b u (exemplar_entry id time v (cut_strings strings lengths))))
+  exemplar_sized id time v row e h =
+      rw (length_exemplar b u id time v (cut_strings strings lengths), ← row_sized b u id (to_bits time) v row e) h
+
+  pub metadata_sized : (id m : ℕ) → Measures size (bad_list strings lengths) (length (uvarint id) + 1 + length (string_list_bytes (cut_strings strings lengths)))
+      → Measures size (bad_list strings lengths) (length (entry_bytes b u (metadata_entry id m (cut_strings strings lengths))))
+  metadata_sized id m h = rw (length_metadata b u id m (cut_strings strings lengths)) h

@@ -3,8 +3,8 @@
 use Rattle.std.specs.Prelude.{ℕ}
 use Rattle.wal_types.specs.Terms.{offset}
 use Rattle.body_format.specs.Building.{Outcome, used, refused}
-use Rattle.body_builder.specs.declared.Added.{Added}
-use Rattle.body_builder.specs.declared.Added.TheVariants.{Next, Refused}
+use Rattle.body_builder.specs.Results.Added.{Added}
+use Rattle.body_builder.specs.Results.Added.{Next, Refused}
 
 -- of a body of tag t: the next state, which is its tag and the bytes used, or the refusal
 abbrev pub added_of : ℕ → Outcome → Added

@@ -11,8 +11,8 @@ use Rattle.varint.specs.Varint.{zigzag, varint}
 use Rattle.big_endian.specs.Fixed.{be8, read_be8}
 use Rattle.body_format.specs.Entries.{Known, known, unknown}
 use Rattle.body_format.specs.Building.{Outcome, used, refused, bad_state}
-use Rattle.body_builder.specs.declared.admission.Gate.{Gate}
-use Rattle.body_builder.specs.declared.admission.Gate.TheVariants.{Open, Shut}
+use Rattle.body_builder.specs.Results.Gate.{Gate}
+use Rattle.body_builder.specs.Results.Gate.{Open, Shut}
 use Rattle.body_builder.specs.declared.admission.Deltas.{Deltas}
 
 -- whether a byte is the tag of a type

@@ -1,6 +1,6 @@
 // What decides a start or an addition, and the deltas of a row: for the entries here, and for those
 // of other crates.
-ghost use Rattle.std.specs.Prelude.{◌≡◌};
+ghost use Rattle.std.specs.Prelude.{◌≡◌, is_none, unwrap_or};
 ghost use Rattle.wal_types.specs.Deltas.{to_bits};
 ghost use Rattle.body_format.specs.Building.{bad_state};
 ghost use Rattle.body_format.specs.Entries.{body_type_of, rows_known};
@@ -12,13 +12,6 @@ use wal_types::{
     Offset, RECORD_LIMIT, Refusal, SeriesId, Timestamp, id_delta, time_delta, time_of_bits,
 };
 
-// Whether an entry may be added, or why not.
-#[derive(Clone, Copy)]
-pub enum Gate {
-    Open,
-    Shut(Refusal),
-}
-
 // A row's deltas to the first id and the first timestamp, or their zigzags.
 #[derive(Clone, Copy)]
 pub struct Deltas {
@@ -27,84 +20,66 @@ pub struct Deltas {
 }
 
 // The known types, 1 to 4 and 6 to 8.
+#[tactic(auto, using(body_format::proofs::Laws::Types::type_unknown), unfolding(body_format::specs::Entries::body_type_of))]
 pub(crate) fn is_known(tag: u8) -> bool
     ensures { result ≡ is_known (body_type_of tag) }
 {
-    match tag {
-        SERIES => true,
-        SAMPLES => true,
-        TOMBSTONES => true,
-        EXEMPLARS => true,
-        METADATA => true,
-        HISTOGRAMS => true,
-        FLOAT_HISTOGRAMS => true,
-        _ => false,
-    }
+    matches!(
+        tag,
+        SERIES | SAMPLES | TOMBSTONES | EXEMPLARS | METADATA | HISTOGRAMS | FLOAT_HISTOGRAMS
+    )
 }
 
 // The types with rows, 2, 4, 7 and 8.
+#[tactic(auto, unfolding(body_format::specs::Entries::body_type_of))]
 fn is_row_type(tag: u8) -> bool
     ensures { result ≡ rows_known (body_type_of tag) }
 {
-    if tag == SAMPLES {
-        return true;
-    }
-    if tag == EXEMPLARS {
-        return true;
-    }
-    if tag == HISTOGRAMS {
-        return true;
-    }
-    tag == FLOAT_HISTOGRAMS
+    matches!(tag, SAMPLES | EXEMPLARS | HISTOGRAMS | FLOAT_HISTOGRAMS)
 }
 
 // BadPlace (FORMAT 10.5): a state (tag, used) that no body in the buffer has. The bytes used are
 // tested before the type, which then hardly ever is.
+#[tactic(auto, using(std::proofs::lemmas::Bool::Decides::nat_tests), unfolding(body_format::specs::Building::bad_state))]
 fn state_is_bad(buffer: &[u8], tag: u8, used: usize) -> bool
     ensures { result ≡ bad_state buffer.now tag used }
 {
-    if used == 0 {
+    if used == 0 || buffer.len() < used || buffer[0] != tag {
         return true;
     }
-    if buffer.len() < used {
-        return true;
-    }
-    if buffer[0] != tag {
-        return true;
-    }
-    if used < 2 {
-        return false;
-    }
-    if 16 < used {
+    if used < 2 || 16 < used {
         return false;
     }
     is_row_type(tag)
 }
 
 // Decides by numbers alone, in the order of FORMAT 10.5: the state (tag, used), the tag of the
-// entry's type, whether its list is bad, and its size.
-pub fn admit(buffer: &[u8], tag: u8, used: usize, want: u8, bad: bool, size: usize) -> Gate
-    ensures { result ≡ gate_for (decided buffer.now tag used want bad size) }
+// entry's type, and its size, which one with a bad list has not.
+#[tactic(auto, using(std::proofs::lemmas::Bool::Decides::nat_tests, crate::proofs::Adding::state_within), unfolding(crate::specs::Sizes::decided))]
+pub fn admit(
+    buffer: &[u8],
+    tag: u8,
+    used: usize,
+    want: u8,
+    size: Option<usize>,
+) -> Result<(), Refusal>
+    ensures { result ≡ gate_for
+        (decided buffer.now tag used want (is_none size) (unwrap_or size 0)) }
 {
     if state_is_bad(buffer, tag, used) {
-        return Gate::Shut(Refusal::BadPlace);
+        return Err(Refusal::BadPlace);
     }
     if tag != want {
-        return Gate::Shut(Refusal::WrongKind);
+        return Err(Refusal::WrongKind);
     }
-    if bad {
-        return Gate::Shut(Refusal::BadList);
-    }
-    if RECORD_LIMIT < used {
-        return Gate::Shut(Refusal::TooLong(Offset(used)));
-    }
-    if RECORD_LIMIT - used < size {
-        return Gate::Shut(Refusal::TooLong(Offset(used)));
+    let size = size.ok_or(Refusal::BadList)?;
+    if RECORD_LIMIT < used || RECORD_LIMIT - used < size {
+        return Err(Refusal::TooLong(Offset(used)));
     }
     if buffer.len() - used < size {
-        return Gate::Shut(Refusal::NoRoom(Offset(used)));
+        return Err(Refusal::NoRoom(Offset(used)));
     }
-    Gate::Open
+    Ok(())
 }
 
 // The deltas of a row to the first id and timestamp, bytes 1 to 16 of the buffer (FORMAT 10.4);

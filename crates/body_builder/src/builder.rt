@@ -23,8 +23,7 @@ pub(crate) fn row_size(used: usize, row: Deltas) -> usize
     }
     let first = uvarint::uvarint_len(row.id);
     let second = uvarint::uvarint_len(row.time);
-    let both = first + second;
-    both + 8
+    first + second + 8
 }
 
 // Two deltas of one byte each, and the value. Nearly every row is such, and here the lengths of its
@@ -58,10 +57,8 @@ fn put_deltas(buffer: &mut [u8], at: usize, id: u64, time: u64, bits: u64) -> us
     ensures value { result ≡ at + length (row_tail id time bits) }
     ensures buffer_after { buffer.new ≡ sets buffer.old at (row_tail id time bits) }
 {
-    if id < 128 {
-        if time < 128 {
-            return put_short_deltas(buffer, at, id, time, bits);
-        }
+    if id < 128 && time < 128 {
+        return put_short_deltas(buffer, at, id, time, bits);
     }
     put_long_deltas(buffer, at, id, time, bits)
 }
@@ -96,8 +93,7 @@ pub(crate) fn tombstone_size(min: Timestamp, max: Timestamp) -> usize
 {
     let first = varint::varint_len(min.0);
     let second = varint::varint_len(max.0);
-    let both = first + second;
-    8 + both
+    8 + (first + second)
 }
 
 // A tombstone at a place that has room for it; the place after it.
@@ -120,7 +116,7 @@ pub(crate) fn put_tombstone(
     varint::put_varint(buffer, third, max.0)
 }
 
-// A series, likewise.
+// A series at a place that has room for it; the place after it.
 pub(crate) fn put_series(
     buffer: &mut [u8],
     at: usize,
@@ -142,7 +138,7 @@ pub(crate) fn put_series(
     put_list(buffer, list, strings, lengths)
 }
 
-// A metadata entry, likewise.
+// A metadata entry at a place that has room for it; the place after it.
 pub(crate) fn put_metadata(
     buffer: &mut [u8],
     at: usize,

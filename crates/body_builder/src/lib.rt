@@ -11,10 +11,10 @@ ghost use Rattle.std.specs.Prelude.{◌≡◌};
 ghost use Rattle.body_format.specs.Calls.{starter, builder, add_series, add_sample, add_tombstone, add_exemplar, add_metadata};
 ghost use Rattle.body_builder.specs.Answers.{added_of};
 
-use admission::{Gate, admit, deltas_of, is_known, zigzags};
+use admission::{admit, deltas_of, is_known, zigzags};
 use body_format::{EXEMPLARS, METADATA, SAMPLES, SERIES, TOMBSTONES};
 use builder::{put_metadata, put_row, put_series, put_tombstone, row_size, tombstone_size};
-use strings::{list_is_bad, list_size, put_list};
+use strings::{entry_size, put_list};
 use wal_types::{Offset, Refusal, SeriesId, Timestamp};
 
 // The state of a body that is being built (FORMAT 10.1): its tag, and the bytes of the buffer used.
@@ -24,28 +24,20 @@ pub struct Body {
     pub used: Offset,
 }
 
-// What starting a body or adding an entry answers: the next state, or the refusal. A refusal
-// changes no byte.
-#[derive(Clone, Copy)]
-pub enum Added {
-    Next(Body),
-    Refused(Refusal),
-}
-
 impl Body {
     // Starts a body of type `tag`: that byte, and no entry yet (FORMAT 10.2).
-    pub fn start(buffer: &mut [u8], tag: u8) -> Added
+    pub fn start(buffer: &mut [u8], tag: u8) -> Result<Body, Refusal>
         ensures answer { result ≡ added_of tag (starter buffer.old tag).outcome }
         ensures bytes { buffer.new ≡ (starter buffer.old tag).buffer }
     {
         if !is_known(tag) {
-            return Added::Refused(Refusal::UnknownType);
+            return Err(Refusal::UnknownType);
         }
-        if buffer.len() == 0 {
-            return Added::Refused(Refusal::NoRoom(Offset(0)));
+        if buffer.is_empty() {
+            return Err(Refusal::NoRoom(Offset(0)));
         }
         buffer[0] = tag;
-        Added::Next(Body {
+        Ok(Body {
             tag,
             used: Offset(1),
         })
@@ -53,12 +45,12 @@ impl Body {
 
     // One series more: its id, and its labels as pairs of strings.
     pub fn add_series(
-        mut self,
+        self,
         buffer: &mut [u8],
         id: SeriesId,
         strings: &[u8],
         lengths: &[u64],
-    ) -> Added
+    ) -> Result<Body, Refusal>
         ensures answer { result ≡ added_of self.tag
             (builder buffer.old self.tag self.used.0
             (add_series id.0 strings.now lengths.now)).outcome }
@@ -66,53 +58,47 @@ impl Body {
             (add_series id.0 strings.now lengths.now)).buffer }
     {
         let at = self.used.0;
-        let bad = list_is_bad(strings, lengths);
-        let list = list_size(strings, lengths);
-        let size = 8 + list;
-        match admit(&*buffer, self.tag, at, SERIES, bad, size) {
-            Gate::Open => {
-                let next = put_series(buffer, at, id, strings, lengths);
-                self.used.0 = next;
-                Added::Next(self)
-            }
-            Gate::Shut(why) => Added::Refused(why),
-        }
+        let size = entry_size(8, strings, lengths);
+        admit(buffer, self.tag, at, SERIES, size)?;
+        let next = put_series(buffer, at, id, strings, lengths);
+        Ok(Body {
+            used: Offset(next),
+            ..self
+        })
     }
 
     // One sample more.
     pub fn add_sample(
-        mut self,
+        self,
         buffer: &mut [u8],
         id: SeriesId,
         time: Timestamp,
         bits: u64,
-    ) -> Added
+    ) -> Result<Body, Refusal>
         ensures answer { result ≡ added_of self.tag
             (builder buffer.old self.tag self.used.0 (add_sample id.0 time.0 bits)).outcome }
         ensures bytes { buffer.new ≡ (builder buffer.old self.tag self.used.0
             (add_sample id.0 time.0 bits)).buffer }
     {
         let at = self.used.0;
-        let row = zigzags(deltas_of(&*buffer, at, id, time));
+        let row = zigzags(deltas_of(buffer, at, id, time));
         let size = row_size(at, row);
-        match admit(&*buffer, self.tag, at, SAMPLES, false, size) {
-            Gate::Open => {
-                let next = put_row(buffer, at, id, time, row, bits);
-                self.used.0 = next;
-                Added::Next(self)
-            }
-            Gate::Shut(why) => Added::Refused(why),
-        }
+        admit(buffer, self.tag, at, SAMPLES, Some(size))?;
+        let next = put_row(buffer, at, id, time, row, bits);
+        Ok(Body {
+            used: Offset(next),
+            ..self
+        })
     }
 
     // One tombstone more.
     pub fn add_tombstone(
-        mut self,
+        self,
         buffer: &mut [u8],
         id: SeriesId,
         min: Timestamp,
         max: Timestamp,
-    ) -> Added
+    ) -> Result<Body, Refusal>
         ensures answer { result ≡ added_of self.tag
             (builder buffer.old self.tag self.used.0
             (add_tombstone id.0 min.0 max.0)).outcome }
@@ -121,26 +107,24 @@ impl Body {
     {
         let at = self.used.0;
         let size = tombstone_size(min, max);
-        match admit(&*buffer, self.tag, at, TOMBSTONES, false, size) {
-            Gate::Open => {
-                let next = put_tombstone(buffer, at, id, min, max);
-                self.used.0 = next;
-                Added::Next(self)
-            }
-            Gate::Shut(why) => Added::Refused(why),
-        }
+        admit(buffer, self.tag, at, TOMBSTONES, Some(size))?;
+        let next = put_tombstone(buffer, at, id, min, max);
+        Ok(Body {
+            used: Offset(next),
+            ..self
+        })
     }
 
     // One exemplar more: a row, and its labels.
     pub fn add_exemplar(
-        mut self,
+        self,
         buffer: &mut [u8],
         id: SeriesId,
         time: Timestamp,
         bits: u64,
         strings: &[u8],
         lengths: &[u64],
-    ) -> Added
+    ) -> Result<Body, Refusal>
         ensures answer { result ≡ added_of self.tag
             (builder buffer.old self.tag self.used.0
             (add_exemplar id.0 time.0 bits strings.now lengths.now)).outcome }
@@ -148,30 +132,26 @@ impl Body {
             (add_exemplar id.0 time.0 bits strings.now lengths.now)).buffer }
     {
         let at = self.used.0;
-        let bad = list_is_bad(strings, lengths);
-        let row = zigzags(deltas_of(&*buffer, at, id, time));
-        let list = list_size(strings, lengths);
-        let size = row_size(at, row) + list;
-        match admit(&*buffer, self.tag, at, EXEMPLARS, bad, size) {
-            Gate::Open => {
-                let labels = put_row(buffer, at, id, time, row, bits);
-                let next = put_list(buffer, labels, strings, lengths);
-                self.used.0 = next;
-                Added::Next(self)
-            }
-            Gate::Shut(why) => Added::Refused(why),
-        }
+        let row = zigzags(deltas_of(buffer, at, id, time));
+        let size = entry_size(row_size(at, row), strings, lengths);
+        admit(buffer, self.tag, at, EXEMPLARS, size)?;
+        let labels = put_row(buffer, at, id, time, row, bits);
+        let next = put_list(buffer, labels, strings, lengths);
+        Ok(Body {
+            used: Offset(next),
+            ..self
+        })
     }
 
     // One metadata entry more: its id, its metric type, and its name and text strings.
     pub fn add_metadata(
-        mut self,
+        self,
         buffer: &mut [u8],
         id: SeriesId,
         metric_type: u8,
         strings: &[u8],
         lengths: &[u64],
-    ) -> Added
+    ) -> Result<Body, Refusal>
         ensures answer { result ≡ added_of self.tag
             (builder buffer.old self.tag self.used.0
             (add_metadata id.0 metric_type strings.now lengths.now)).outcome }
@@ -179,17 +159,13 @@ impl Body {
             (add_metadata id.0 metric_type strings.now lengths.now)).buffer }
     {
         let at = self.used.0;
-        let bad = list_is_bad(strings, lengths);
-        let list = list_size(strings, lengths);
         let head = uvarint::uvarint_len(id.0) + 1;
-        let size = head + list;
-        match admit(&*buffer, self.tag, at, METADATA, bad, size) {
-            Gate::Open => {
-                let next = put_metadata(buffer, at, id, metric_type, strings, lengths);
-                self.used.0 = next;
-                Added::Next(self)
-            }
-            Gate::Shut(why) => Added::Refused(why),
-        }
+        let size = entry_size(head, strings, lengths);
+        admit(buffer, self.tag, at, METADATA, size)?;
+        let next = put_metadata(buffer, at, id, metric_type, strings, lengths);
+        Ok(Body {
+            used: Offset(next),
+            ..self
+        })
     }
 }

@@ -8,8 +8,8 @@ use crate::admission::{deltas_of, zigzags};
 use crate::builder::{put_row, row_size};
 use wal_types::{SeriesId, Timestamp};
 
-// The bytes that the row of an id and a time takes after the `used` bytes of the body in the buffer,
-// whatever its value.
+// The bytes that the row of an id and a time takes after the `used` bytes of the body in the
+// buffer, whatever its value.
 pub fn row_len(buffer: &[u8], used: usize, id: SeriesId, time: Timestamp) -> usize
     ensures { ((bits : ℕ) → result ≡ length (row_bytes buffer.now used id.0 (to_bits time.0) bits))
         × (result ≤ 28) }
@@ -25,12 +25,9 @@ pub fn put_row_at(buffer: &mut [u8], at: usize, id: SeriesId, time: Timestamp, b
     ensures buffer_after { buffer.new ≡ put_at buffer.old at
         (row_bytes buffer.old at id.0 (to_bits time.0) bits) }
 {
-    let row = zigzags(deltas_of(&*buffer, at, id, time));
+    let row = zigzags(deltas_of(buffer, at, id, time));
     let size = row_size(at, row);
-    if buffer.len() < at {
-        return at;
-    }
-    if buffer.len() - at < size {
+    if buffer.len() < at || buffer.len() - at < size {
         return at;
     }
     put_row(buffer, at, id, time, row, bits)

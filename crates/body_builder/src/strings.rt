@@ -1,67 +1,63 @@
 // Strings as the caller gives them for building: one slice of bytes, and one of lengths.
-ghost use Rattle.std.specs.Prelude.{◌≡◌, ◌+◌, ◌*◌, ◌≤◌, eqb, length, take};
+ghost use Rattle.std.specs.Prelude.{◌≡◌, ◌+◌, ◌*◌, ◌≤◌, eqb, length, IfSome, is_none};
 ghost use Rattle.std.proofs.lemmas.List.Edits.{sets};
 ghost use Rattle.body_format.specs.Building.{strings_bytes, string_list_bytes, cut_strings, total, bad_list};
+ghost use Rattle.body_builder.specs.Laws.Additions.{Measures};
 ghost use Rattle.body_builder.specs.Sizes.{heads, list_size};
 
 use wal_types::RECORD_LIMIT;
-
-// BadList (FORMAT 10.5): an odd number of strings, or lengths that do not add up to the bytes.
-pub(crate) fn list_is_bad(strings: &[u8], lengths: &[u64]) -> bool
-    ensures { result ≡ bad_list strings.now lengths.now }
-{
-    if lengths.len() % 2 == 1 {
-        return true;
-    }
-    !add_up(lengths, strings.len())
-}
 
 // Whether lengths add up to a size. Each is taken from what is left, so that no sum can wrap.
 fn add_up(lengths: &[u64], size: usize) -> bool
     ensures { result ≡ eqb (total lengths.now) size }
 {
     let mut left = size as u64;
-    let mut i: usize = 0;
-    while i < lengths.len() {
-        let next = lengths[i];
-        if left < next {
+    for &length in lengths {
+        let Some(rest) = left.checked_sub(length) else {
             return false;
-        }
-        left -= next;
-        i += 1;
+        };
+        left = rest;
     }
     left == 0
 }
 
 // The bytes that the list takes in a body. Lists of more than 65,536 strings or bytes fit in no
-// body; all of them get one size, so that no sum wraps.
-pub(crate) fn list_size(strings: &[u8], lengths: &[u64]) -> usize
-    ensures { (result ≡ list_size (length strings.now) lengths.now) × (result ≤ 1000000) }
+// body; all of them get one size, so that no sum wraps. A bad list has none (BadList, FORMAT 10.5):
+// an odd number of strings, or lengths that do not add up to the bytes.
+#[tactic(auto, using(std::proofs::lemmas::Bool::Decides::nat_tests), unfolding(body_format::specs::Building::bad_list, crate::specs::Sizes::list_size))]
+fn list_size(strings: &[u8], lengths: &[u64]) -> Option<usize>
+    ensures bad { is_none result ≡ bad_list strings.now lengths.now }
+    ensures good { IfSome result (λ n.
+        (n ≡ list_size (length strings.now) lengths.now) × (n ≤ 1000000)) }
 {
-    if RECORD_LIMIT < lengths.len() {
-        return 65537;
+    if lengths.len() % 2 == 1 || !add_up(lengths, strings.len()) {
+        return None;
     }
-    if RECORD_LIMIT < strings.len() {
-        return 65537;
+    if RECORD_LIMIT < lengths.len() || RECORD_LIMIT < strings.len() {
+        return Some(RECORD_LIMIT + 1);
     }
-    let pairs = (lengths.len() / 2) as u64;
-    let count = uvarint::uvarint_len(pairs);
-    let heads = heads_size(lengths);
-    let both = count + heads;
-    both + strings.len()
+    let count = uvarint::uvarint_len((lengths.len() / 2) as u64);
+    Some(count + heads_size(lengths) + strings.len())
+}
+
+// The bytes of an entry: so many, and its list. One with a bad list has none.
+pub(crate) fn entry_size(head: usize, strings: &[u8], lengths: &[u64]) -> Option<usize>
+    requires { head ≤ 100 }
+    ensures { Measures result (bad_list strings.now lengths.now)
+        (head + length (string_list_bytes (cut_strings strings.now lengths.now))) }
+{
+    Some(head + list_size(strings, lengths)?)
 }
 
 // The bytes that the lengths take, each before its string.
+#[tactic(auto, unfolding(crate::specs::Sizes::heads))]
 fn heads_size(lengths: &[u64]) -> usize
     requires { length lengths.now ≤ 65536 }
     ensures { (result ≡ heads lengths.now) × (result ≤ 10 * length lengths.now) }
 {
-    let mut size: usize = 0;
-    let mut i: usize = 0;
-    while i < lengths.len() {
-        let head = uvarint::uvarint_len(lengths[i]);
-        size += head;
-        i += 1;
+    let mut size = 0;
+    for &length in lengths {
+        size += uvarint::uvarint_len(length);
     }
     size
 }
@@ -88,16 +84,13 @@ fn put_strings(buffer: &mut [u8], at: usize, strings: &[u8], lengths: &[u64]) ->
         (strings_bytes (cut_strings strings.now lengths.now)) }
 {
     let mut place = at;
-    let mut from: usize = 0;
-    let mut i: usize = 0;
-    while i < lengths.len() {
-        let head = lengths[i];
-        let count = head as usize;
-        let start = uvarint::put_uvarint(buffer, place, head);
+    let mut from = 0;
+    for &length in lengths {
+        let count = length as usize;
+        let start = uvarint::put_uvarint(buffer, place, length);
         byte_copy::copy(strings, from, count, buffer, start);
         place = start + count;
         from += count;
-        i += 1;
     }
     place
 }

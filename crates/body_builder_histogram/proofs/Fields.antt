@@ -1,13 +1,6 @@
 -- The fields of a histogram: by the bucket kind, and in a row.
-use mathlib.Core.Path.{◌≡◌, refl, sym, ap, ◌∙◌}
-use mathlib.Core.Bool.{Bool, true, false}
-use mathlib.Core.List.{List, [], ◌∷◌, ◌++◌, append_assoc}
-use Prim.Native.Nat.{ℕ, ◌+◌, ◌≤◌, ◌<◌}
-use native.Mathlib.Omega.{arith}
-use borrow.Author.Tests.{eq-eqb, ne_eqb, eqb-true, eqb-false}
-use lib.IntN.{ℤ}
-use lib.Dec.{eqb}
-use lib.ListN.{length, drop, set, length-set, length-append}
+use Rattle.std.proofs.Common.{◌≡◌, refl, sym, ap, ◌∙◌, Bool, true, false, List, [], ◌∷◌, ◌++◌, append_assoc, ℕ, ◌+◌, ◌≤◌, ◌<◌, arith, eq-eqb, ne_eqb, eqb-true, ℤ, eqb, length, drop, set, length-set, length-append}
+use Rattle.std.proofs.lemmas.Bool.{eqb-false}
 use Rattle.byte_copy.specs.Put.{put_at, put_end}
 use Rattle.wal_types.specs.Deltas.{minus, int_from_bits}
 use Rattle.uvarint.specs.Uvarint.{uvarint}

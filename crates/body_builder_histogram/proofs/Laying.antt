@@ -1,15 +1,7 @@
 -- Elements written one after another, and their sizes: once over the element.
-use mathlib.Core.Path.{◌≡◌, refl, sym, ap, ap₂, ◌∙◌}
-use mathlib.Core.Bool.{Bool, true, false, ◌||◌, not}
-use mathlib.Core.List.{List, [], ◌∷◌, ◌++◌}
-use Prim.Native.Nat.{ℕ, zero, suc, ◌+◌, ◌*◌, ◌≤◌, ◌<◌}
-use native.Mathlib.Numerals.{add-one}
-use native.Mathlib.Omega.{arith}
-use borrow.Author.Tests.{eqb-true}
-use lib.IntN.{ℤ, pos}
-use lib.Dec.{eqb}
-use lib.ListN.{length, get_or, drop, drop_of_length-le, length-append}
-use lib.Seq.{sets, length-sets, drop-cons}
+use Rattle.std.proofs.Common.{◌≡◌, refl, sym, ap, ap₂, ◌∙◌, Bool, true, false, ◌||◌, not, List, [], ◌∷◌, ◌++◌, ℕ, zero, suc, ◌+◌, ◌*◌, ◌≤◌, ◌<◌, add-one, arith, eqb-true, ℤ, pos, eqb, length, get_or, drop, drop_of_length-le, length-append, drop-cons}
+use Rattle.std.proofs.lemmas.List.Edits.{sets}
+use Rattle.std.proofs.Math.Seq.{length-sets}
 use Rattle.byte_copy.specs.CopiedLaws.{sets-append}
 use Rattle.byte_copy.specs.Put.{put_at, put_end}
 use Rattle.uvarint.specs.Uvarint.{uvarint}
@@ -57,8 +49,8 @@ module _ (x : Element) (xs : List (Item x)) where
 
   -- ---- bytes
 
-  -- Once the elements that are left are written to b from `place` on, b is what b₀ is to become, and
-  -- the place after them is the same.
+  -- Once the elements that are left are written to b from `place` on, b is what b₀ is to become,
+  -- and the place after them is the same.
   pub record Laying (b₀ : List ℕ) (at : ℕ) (b : List ℕ) (place i : ℕ) : Type 0 where
     pub inside : i ≤ length xs
     pub size : length b ≡ length b₀
@@ -134,7 +126,7 @@ pub bucket-step : (vs : List ℕ) (i : ℕ) → i < length vs → drop i vs ≡ 
 bucket-step vs i h = rw (add-one i, drop-cons vs i 0 h)
 
 -- lists that are not bad have as many offsets as lengths
-good-spans : (l : LentSpans) → bad_spans l ≡ false → length l.gaps ≡ length l.sizes
+pub good-spans : (l : LentSpans) → bad_spans l ≡ false → length l.gaps ≡ length l.sizes
 unfolding bad_spans
 good-spans l h = go (eqb (length l.gaps) (length l.sizes)) refl h
   where
@@ -142,10 +134,8 @@ good-spans l h = go (eqb (length l.gaps) (length l.sizes)) refl h
     go true e k = eqb-true (length l.gaps) (length l.sizes) e
     go false e k = let z : ◌≡◌ {A = ℕ} 0 1 = cc in absurd (omega arith)
 
-pub good-sides : (l m : LentSpans) → bad_spans l || bad_spans m ≡ false → (length l.gaps ≡ length l.sizes) × (length m.gaps ≡ length m.sizes)
-good-sides l m h = go (bad_spans l) (bad_spans m) refl refl h
-  where
-    go : (t u : Bool) → bad_spans l ≡ t → bad_spans m ≡ u → t || u ≡ false → (length l.gaps ≡ length l.sizes) × (length m.gaps ≡ length m.sizes)
-    go false false e f k = (good-spans l e, good-spans m f)
-    go false true e f k = let z : ◌≡◌ {A = ℕ} 0 1 = cc in absurd (omega arith)
-    go true u e f k = let z : ◌≡◌ {A = ℕ} 0 1 = cc in absurd (omega arith)
+-- on both sides
+pub bad-sides : (t u : Bool) → t || u ≡ false → (t ≡ false) × (u ≡ false)
+bad-sides false false h = (refl, refl)
+bad-sides false true h = let z : ◌≡◌ {A = ℕ} 0 1 = cc in absurd (omega arith)
+bad-sides true u h = let z : ◌≡◌ {A = ℕ} 0 1 = cc in absurd (omega arith)

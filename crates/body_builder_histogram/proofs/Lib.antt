@@ -1,3 +1,4 @@
 pub mod Laying
 pub mod Fields
 pub mod Parts
+pub mod Stepping

@@ -1,3 +1,4 @@
 pub mod Lent
 pub mod Firsts
 pub mod Front
+pub mod Items

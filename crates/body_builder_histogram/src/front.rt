@@ -43,12 +43,9 @@ pub fn put_front(
     ensures buffer_after { buffer.new ≡ put_at buffer.old at
         (front_bytes buffer.old at kind id.0 (to_bits time.0) numbers) }
 {
-    let row = zigzags(deltas_of(&*buffer, at, id, time));
-    let size = front_len(&*buffer, kind, at, id, time, numbers);
-    if buffer.len() < at {
-        return at;
-    }
-    if buffer.len() - at < size {
+    let row = zigzags(deltas_of(buffer, at, id, time));
+    let size = front_len(buffer, kind, at, id, time, numbers);
+    if buffer.len() < at || buffer.len() - at < size {
         return at;
     }
     let second = put_head(buffer, at, id, time, row);

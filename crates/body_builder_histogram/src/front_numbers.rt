@@ -6,13 +6,6 @@ ghost use Rattle.body_format.specs.Histograms.{count_bytes, numbers_bytes};
 
 use body_format::{BucketKind, Numbers};
 
-// A number of 32 bits as it goes into a varint.
-pub(crate) fn wide(x: i32) -> i64
-    ensures { result ≡ x }
-{
-    x as i64
-}
-
 // The bytes of a zero count or a count: a uvarint in type 7, a float in type 8.
 fn count_size(kind: BucketKind, count: u64) -> usize
     ensures { (result ≡ length (count_bytes kind count)) × (result ≤ 10) }
@@ -24,6 +17,7 @@ fn count_size(kind: BucketKind, count: u64) -> usize
 }
 
 // The count at a place of the buffer; the place after it.
+#[tactic(auto, unfolding(body_format::specs::Histograms::count_bytes))]
 fn put_count(buffer: &mut [u8], kind: BucketKind, at: usize, count: u64) -> usize
     ensures value { result ≡ put_end buffer.old at (count_bytes kind count) }
     ensures buffer_after { buffer.new ≡ put_at buffer.old at (count_bytes kind count) }
@@ -38,12 +32,10 @@ fn put_count(buffer: &mut [u8], kind: BucketKind, at: usize, count: u64) -> usiz
 pub(crate) fn numbers_size(kind: BucketKind, numbers: Numbers) -> usize
     ensures { (result ≡ length (numbers_bytes kind numbers)) × (result ≤ 47) }
 {
-    let schema = varint::varint_len(wide(numbers.schema));
+    let schema = varint::varint_len(i64::from(numbers.schema));
     let zeros = count_size(kind, numbers.zeros);
     let count = count_size(kind, numbers.count);
-    let counts = zeros + count;
-    let varying = schema + counts;
-    17 + varying
+    17 + schema + zeros + count
 }
 
 // The numbers at a place that has room for them; the place after them.
@@ -54,7 +46,7 @@ pub(crate) fn put_numbers(buffer: &mut [u8], kind: BucketKind, at: usize, number
 {
     buffer[at] = numbers.hint;
     let schema = at + 1;
-    let threshold = varint::put_varint(buffer, schema, wide(numbers.schema));
+    let threshold = varint::put_varint(buffer, schema, i64::from(numbers.schema));
     let zeros = big_endian::put_be8(buffer, threshold, numbers.threshold);
     let count = put_count(buffer, kind, zeros, numbers.zeros);
     let sum = put_count(buffer, kind, count, numbers.count);

@@ -1,14 +1,11 @@
 -- Strings of another body, written one after another: each after its length, and before them half
 -- their number.
-use mathlib.Core.Path.{◌≡◌, refl, sym, ap, ap₂, ◌∙◌}
-use mathlib.Core.Bool.{true, false}
-use mathlib.Core.List.{List, ◌++◌}
-use Prim.Native.Nat.{ℕ, zero, suc, ◌+◌, ◌-◌, ◌/◌, ◌%◌, ◌≤◌, ◌<◌}
-use native.Mathlib.Omega.{arith}
-use lib.ListN.{length, take, drop, length-append}
-use lib.Seq.{sets, length-sets}
-use lib.Dec.{eqb}
-use Rattle.wal_types.specs.declared.Refusal.{Refusal}
+use Rattle.std.proofs.Common.{◌≡◌, refl, sym, ap, ap₂, ◌∙◌, true, false, List, ◌++◌, [], ℕ, zero, suc, ◌+◌, ◌-◌, ◌/◌, ◌%◌, ◌≤◌, ◌<◌, arith, length, take, drop, length-append, eqb}
+use Rattle.std.proofs.lemmas.List.Edits.{sets}
+use Rattle.std.proofs.Math.Seq.{length-sets}
+use Rattle.std.specs.Prelude.{Option, Some, None}
+use Rattle.std.specs.Result.{result_ok}
+use Rattle.body_fields.specs.Readings.{string_read}
 use Rattle.byte_copy.specs.CopiedLaws.{sets-append}
 use Rattle.byte_copy.specs.Put.{put_at, put_end}
 use Rattle.uvarint.specs.Uvarint.{uvarint}
@@ -17,10 +14,10 @@ use Rattle.body_format.specs.Building.{string_bytes, strings_bytes, string_list_
 use Rattle.body_format.proofs.Laws.Fields.{length-string, length-strings}
 use Rattle.body_format.proofs.Laws.Bounds.{Every, every_then, of_got}
 use Rattle.body_builder.specs.Laws.Putting.{Put, put_first, room_then, put_then}
-use Rattle.body_copy.specs.declared.strings.Taken.{Taken}
-use Rattle.body_copy.specs.declared.strings.Taken.TheVariants as size
+use Rattle.body_copy.specs.Results.Taken.{Taken}
+use Rattle.body_copy.specs.Results.Taken as size
 use Rattle.body_copy.specs.Taking.{strings_taken, bad_strings}
-use Rattle.body_copy.specs.Forms.{size_taken, bytes_of, after_of, strings_from, list_from}
+use Rattle.body_copy.specs.Forms.{size_taken, bytes_of, after_of, copied_of, strings_from, list_from}
 use Rattle.body_copy.proofs.Measuring.{standing}
 
 -- ---- strings that can all be read
@@ -66,6 +63,11 @@ good-list s k p h = go (strings_at k s p) refl h
         let w = whole s k p ts q e in
         ap₂ (λ (n : ℕ) (l : List ℕ). uvarint (n / 2) ++ l) w.count (sym w.bytes)
     go (fault why) e b = let z : ◌≡◌ {A = ℕ} 0 1 = cc in absurd (omega arith)
+
+-- an odd number of strings
+pub odd_bad : (k : ℕ) (f : Field (List (List ℕ))) → eqb (k % 2) 1 ≡ true → true ≡ bad_strings k f
+odd_bad k (got ts q) h = sym h
+odd_bad k (fault why) h = refl
 
 -- what its size tells
 pub record Told (s : List ℕ) (k p n : ℕ) : Type 0 where
@@ -133,10 +135,38 @@ module _ (s : List ℕ) (p start n q : ℕ) (t : StringField) (e : string_at s p
       let end : Put b₁ p₁ text b₂ (p₁ + n) = (ap (λ (k : ℕ). p₁ + k) (sym long), h) in
       (sym (ap (after_of p) e), rw bytes (put_then b b₁ place p₁ (uvarint n) text room₀ b₂ (p₁ + n) head end))
 
+  -- what is answered of it
+  pub text-copied : (b₂ : List ℕ) → (q ≡ after_of p (string_at s p)) × Put b place (bytes_of (string_at s p)) b₂ (p₁ + n)
+      → ◌≡◌ {A = Option (ℕ × ℕ)} (Some (p₁ + n, q)) (copied_of place (string_at s p)) × (b₂ ≡ sets b place (bytes_of (string_at s p)))
+  text-copied b₂ (h, k) =
+      let end : p₁ + n ≡ place + length (string_bytes t.bytes) = k.0 ∙ ap (λ (f : Field StringField). place + length (bytes_of f)) e in
+      (ap (λ (m : ℕ). pair m) end ∙ sym (ap (copied_of place) e), k.1)
+    where
+      pair : ℕ → Option (ℕ × ℕ)
+      pair m = Some (m, q)
+
 -- one that cannot be read
-pub text-none : (s : List ℕ) (p : ℕ) {why : Refusal} (b : List ℕ) (place : ℕ) → string_at s p ≡ fault why
-    → (p ≡ after_of p (string_at s p)) × Put b place (bytes_of (string_at s p)) b place
-text-none s p b place e = (sym (ap (after_of p) e), rw e (omega arith, refl))
+pub text-none : (f : Field StringField) (b : List ℕ) (place : ℕ) → result_ok (string_read f) ≡ None
+    → (None ≡ copied_of place f) × (b ≡ sets b place (bytes_of f))
+text-none (got t q) b place e = let z : ◌≡◌ {A = ℕ} 0 1 = cc in absurd (omega arith)
+text-none (fault why) b place e = (refl, refl)
+
+copied-told : (f : Field StringField) (place r q : ℕ) → ◌≡◌ {A = Option (ℕ × ℕ)} (Some (r, q)) (copied_of place f)
+    → (r ≡ place + length (bytes_of f)) × ((p : ℕ) → q ≡ after_of p f)
+copied-told (got t n) place r q e =
+    let v : ◌≡◌ {A = ℕ × ℕ} (r, q) (place + length (string_bytes t.bytes), n) = cc in
+    (ap (λ (w : ℕ × ℕ). w.0) v, λ p. ap (λ (w : ℕ × ℕ). w.1) v)
+copied-told (fault why) place r q e = let z : ◌≡◌ {A = ℕ} 0 1 = cc in absurd (omega arith)
+
+uncopied : (f : Field StringField) (place : ℕ) → None ≡ copied_of place f → (bytes_of f ≡ []) × ((p : ℕ) → after_of p f ≡ p)
+uncopied (got t n) place e = let z : ◌≡◌ {A = ℕ} 0 1 = cc in absurd (omega arith)
+uncopied (fault why) place e = (refl, λ p. refl)
+
+-- after one that cannot be read there is none
+none-left : (s : List ℕ) (k p : ℕ) → bytes_of (string_at s p) ≡ [] → after_of p (string_at s p) ≡ p → strings_from k s p ≡ []
+unfolding strings_from
+none-left s zero p e f = refl
+none-left s (suc k) p e f = rw (e, f) (none-left s k p e f)
 
 -- ---- several, written
 
@@ -162,7 +192,7 @@ module _ (s : List ℕ) (first count : ℕ) (b₀ : List ℕ) (at : ℕ) (b : Li
   unfolding one
   string-room room = omega (arith, l.end, l.size, ap length split, length-append one others)
 
-  pub string-laid : (b₁ : List ℕ) (place₁ next₁ : ℕ) → (next₁ ≡ after_of next (string_at s next)) × Put b place (bytes_of (string_at s next)) b₁ place₁
+  string-laid : (b₁ : List ℕ) (place₁ next₁ : ℕ) → (next₁ ≡ after_of next (string_at s next)) × Put b place (bytes_of (string_at s next)) b₁ place₁
       → Laying s first count b₀ at b₁ place₁ next₁ (left - 1)
   unfolding one others
   string-laid b₁ place₁ next₁ (n, w) =
@@ -177,6 +207,25 @@ module _ (s : List ℕ) (first count : ℕ) (b₀ : List ℕ) (at : ℕ) (b : Li
             ∙ ap (sets b place) (sym split)
             ∙ l.same;
       }
+
+  -- by what is answered of it
+  pub string-more : (b₁ : List ℕ) (place₁ next₁ : ℕ)
+      → ◌≡◌ {A = Option (ℕ × ℕ)} (Some (place₁, next₁)) (copied_of place (string_at s next)) × (b₁ ≡ sets b place (bytes_of (string_at s next)))
+      → Laying s first count b₀ at b₁ place₁ next₁ (left - 1)
+  string-more b₁ place₁ next₁ (e, f) =
+      let t = copied-told (string_at s next) place place₁ next₁ e in
+      string-laid b₁ place₁ next₁ (t.1 next, (t.0, f))
+
+-- one that cannot be read is the last, and changes nothing
+pub strings-unread : (s : List ℕ) (first count : ℕ) (b₀ : List ℕ) (at : ℕ) (b : List ℕ) (place next left : ℕ) → Laying s first count b₀ at b place next left
+    → (b₁ : List ℕ) → (None ≡ copied_of place (string_at s next)) × (b₁ ≡ sets b place (bytes_of (string_at s next)))
+    → Put b₀ at (strings_from count s first) b₁ place
+strings-unread s first count b₀ at b place next left l b₁ (e, f) =
+    let u = uncopied (string_at s next) place e in
+    let none = none-left s left next u.0 (u.1 next) in
+    let end = rw none at l.end in
+    let same = rw none at l.same in
+    (omega (arith, end), rw u.0 at f ∙ same)
 
 pub strings-laid : (s : List ℕ) (first count : ℕ) (b₀ : List ℕ) (at : ℕ) (b : List ℕ) (place next : ℕ) → Laying s first count b₀ at b place next 0
     → Put b₀ at (strings_from count s first) b place

@@ -1,28 +1,22 @@
 -- Strings of another body: what is known of one that is read, and of those that are measured one
 -- after another.
-use mathlib.Core.Path.{◌≡◌, refl, sym, ap, ◌∙◌}
-use mathlib.Core.Bool.{Bool, true, false, cond}
-use mathlib.Core.List.{List, ◌∷◌}
-use Prim.Native.Nat.{ℕ, suc, ◌+◌, ◌-◌, ◌≤◌, ◌<◌}
-use native.Mathlib.Omega.{arith}
-use borrow.Author.Tests.{ltb-false}
-use lib.ListN.{length, take, drop, length-drop}
-use lib.Seq.{length-take-le}
-use lib.Dec.{ltb}
-use Rattle.wal_types.specs.declared.Refusal.{Refusal}
+use Rattle.std.proofs.Common.{◌≡◌, refl, sym, ap, ◌∙◌, Bool, true, false, cond, List, ◌∷◌, ℕ, suc, ◌+◌, ◌-◌, ◌≤◌, ◌<◌, arith, ltb-false, length, take, drop, length-drop, length-take-le, ltb}
+use Rattle.std.specs.Prelude.{Result, Ok, Err, Some, None}
+use Rattle.std.specs.Result.{result_ok}
+use Rattle.body_fields.specs.Readings.{string_read}
 use Rattle.wal_types.specs.declared.Refusal.TheVariants.{Short}
 use Rattle.wal_types.specs.Terms.{offset}
-use Rattle.uvarint.specs.declared.UvarintRead.{UvarintRead}
-use Rattle.uvarint.specs.declared.UvarintRead.TheVariants as u
+use Rattle.uvarint.specs.Results.UvarintRead.{UvarintRead}
+use Rattle.uvarint.specs.Results.UvarintRead as u
 use Rattle.uvarint.specs.Uvarint.{uvarint, read_uvarint}
 use Rattle.uvarint.specs.UvarintLaws.{taken}
 use Rattle.body_format.specs.Fields.{Field, got, fault, and_then, StringField, uvarint_of, uvarint_at, string_at, strings_at}
 use Rattle.body_format.specs.Building.{string_bytes, strings_bytes}
 use Rattle.body_format.proofs.Laws.Fields.{length-string, length-strings}
 use Rattle.body_format.proofs.Laws.Bounds.{Every, every_then, of_got}
-use Rattle.body_copy.specs.declared.strings.Measured.{Measured}
-use Rattle.body_copy.specs.declared.strings.Measured.TheVariants as measured
-use Rattle.body_copy.specs.declared.strings.Taken.TheVariants as size
+use Rattle.body_copy.specs.Results.Measured.{Measured}
+use Rattle.body_copy.specs.Results.Measured as measured
+use Rattle.body_copy.specs.Results.Taken as size
 use Rattle.body_copy.specs.Forms.{measured_of, size_taken}
 
 -- ---- one string
@@ -77,8 +71,14 @@ string-size_is s p start n q head (t, e, a, b) h =
     h' : head + n ≡ length (string_bytes t.bytes)
     h' = omega (arith, length-string t.bytes, h, b, ap (λ (m : ℕ). length (uvarint m)) b)
 
-pub string-size-bad : (s : List ℕ) (p : ℕ) {why : Refusal} → string_at s p ≡ fault why → measured.Bad ≡ measured_of (string_at s p)
-string-size-bad s p e = sym (ap measured_of e)
+pub string-size-none : (f : Field StringField) → result_ok (string_read f) ≡ None → measured.Bad ≡ measured_of f
+string-size-none (got t q) e = let z : ◌≡◌ {A = ℕ} 0 1 = cc in absurd (omega arith)
+string-size-none (fault why) e = refl
+
+-- an `Ok` that was asked for
+pub ok_some : {A E : Type 0} (r : Result A E) (v : A) → result_ok r ≡ Some v → r ≡ Ok v
+ok_some (Ok x) v e = cc
+ok_some (Err why) v e = let z : ◌≡◌ {A = ℕ} 0 1 = cc in absurd (omega arith)
 
 pub string_small : (s : List ℕ) (p start n q : ℕ) → (t : StringField) × (string_at s p ≡ got t q) × (t.start ≡ start) × (length t.bytes ≡ n) → n ≤ length s
 string_small s p start n q (t, e, a, b) = let h = standing s p t q e in omega (arith, h.end, h.inside, b)

@@ -1,13 +1,14 @@
--- The forms that the code's loops have: a string measured, a string and strings as they are written.
+-- The forms that the code's loops have: a string measured, a string and strings as they are
+-- written.
 -- Assumes nothing.
-use Rattle.std.specs.Prelude.{List, [], ◌++◌, ℕ, zero, suc, ◌+◌, ◌/◌, length}
+use Rattle.std.specs.Prelude.{List, [], ◌++◌, ℕ, zero, suc, ◌+◌, ◌/◌, length, Option, Some, None}
 use Rattle.uvarint.specs.Uvarint.{uvarint}
 use Rattle.body_format.specs.Fields.{Field, got, fault, StringField, string_at}
 use Rattle.body_format.specs.Building.{string_bytes, strings_bytes}
-use Rattle.body_copy.specs.declared.strings.Measured.{Measured}
-use Rattle.body_copy.specs.declared.strings.Measured.TheVariants as measured
-use Rattle.body_copy.specs.declared.strings.Taken.{Taken}
-use Rattle.body_copy.specs.declared.strings.Taken.TheVariants as taken
+use Rattle.body_copy.specs.Results.Measured.{Measured}
+use Rattle.body_copy.specs.Results.Measured as measured
+use Rattle.body_copy.specs.Results.Taken.{Taken}
+use Rattle.body_copy.specs.Results.Taken as taken
 
 -- the bytes that a string takes in the new body, and the place after it in the other
 abbrev pub measured_of : Field StringField → Measured
@@ -28,6 +29,11 @@ bytes_of (fault why) = []
 abbrev pub after_of : ℕ → Field StringField → ℕ
 after_of p (got t q) = q
 after_of p (fault why) = p
+
+-- the places after a string that is written at a place, and after the one that was read
+abbrev pub copied_of : ℕ → Field StringField → Option (ℕ × ℕ)
+copied_of place (got t q) = Some (place + length (string_bytes t.bytes), q)
+copied_of place (fault why) = None
 
 -- the bytes of k strings in a row, from place p of s on
 unfoldable pub strings_from : ℕ → List ℕ → ℕ → List ℕ

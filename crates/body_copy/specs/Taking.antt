@@ -1,5 +1,5 @@
--- FORMAT 24.3: strings that are taken out of another body for an entry that is added, and what such an
--- addition does (FORMAT 10).
+-- FORMAT 24.3: strings that are taken out of another body for an entry that is added, and what such
+-- an addition does (FORMAT 10).
 -- To be believed. Assumes nothing.
 use Rattle.std.specs.Prelude.{Bool, true, List, [], ℕ, ◌%◌, eqb}
 use Rattle.body_format.specs.Fields.{Field, got, fault}
@@ -12,8 +12,8 @@ abbrev pub strings_taken : Field (List (List ℕ)) → List (List ℕ)
 strings_taken (got ts q) = ts
 strings_taken (fault why) = []
 
--- BadList: one of them cannot be read, or their number is odd; in a body that was checked no list is
--- bad
+-- BadList: one of them cannot be read, or their number is odd; in a body that was checked no list
+-- is bad
 abbrev pub bad_strings : ℕ → Field (List (List ℕ)) → Bool
 bad_strings count (got ts q) = eqb (count % 2) 1
 bad_strings count (fault why) = true

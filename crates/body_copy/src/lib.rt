@@ -18,12 +18,12 @@ ghost use Rattle.body_builder.specs.Laws.Putting.{Put};
 ghost use Rattle.body_copy.specs.Taking.{adding};
 ghost use Rattle.body_copy.specs.Forms.{list_from};
 
-use body_builder::admission::{Gate, admit};
+use body_builder::Body;
+use body_builder::admission::admit;
 use body_builder::rows::{put_row_at, row_len};
-use body_builder::{Added, Body};
 use body_format::{EXEMPLARS, METADATA, SERIES};
-use strings::{list_size, put_list};
-use wal_types::{Offset, SeriesId, Timestamp};
+use strings::{entry_size, put_list};
+use wal_types::{Offset, Refusal, SeriesId, Timestamp};
 
 // ---- series
 
@@ -46,13 +46,13 @@ fn put_series(
 
 // One series more: its labels are the `count` strings of the body `from`, from place `first` on.
 pub fn add_series_from(
-    mut body: Body,
+    body: Body,
     buffer: &mut [u8],
     id: SeriesId,
     from: &[u8],
     first: Offset,
     count: usize,
-) -> Added
+) -> Result<Body, Refusal>
     ensures answer { result ≡ added_of body.tag
         (adding buffer.old body.tag body.used.0 (series_entry id.0) count
         (strings_at count from.now first.0)).outcome }
@@ -61,16 +61,13 @@ pub fn add_series_from(
         (strings_at count from.now first.0)).buffer }
 {
     let at = body.used.0;
-    let list = list_size(from, first.0, count);
-    let size = 8 + list.size;
-    match admit(&*buffer, body.tag, at, SERIES, list.bad, size) {
-        Gate::Open => {
-            let next = put_series(from, first.0, count, buffer, at, id);
-            body.used.0 = next;
-            Added::Next(body)
-        }
-        Gate::Shut(why) => Added::Refused(why),
-    }
+    let size = entry_size(8, from, first.0, count);
+    admit(buffer, body.tag, at, SERIES, size)?;
+    let next = put_series(from, first.0, count, buffer, at, id);
+    Ok(Body {
+        used: Offset(next),
+        ..body
+    })
 }
 
 // ---- exemplars
@@ -98,7 +95,7 @@ fn put_exemplar(
 
 // One exemplar more: its labels are the `count` strings of the body `from`, from place `first` on.
 pub fn add_exemplar_from(
-    mut body: Body,
+    body: Body,
     buffer: &mut [u8],
     id: SeriesId,
     time: Timestamp,
@@ -106,7 +103,7 @@ pub fn add_exemplar_from(
     from: &[u8],
     first: Offset,
     count: usize,
-) -> Added
+) -> Result<Body, Refusal>
     ensures answer { result ≡ added_of body.tag
         (adding buffer.old body.tag body.used.0 (exemplar_entry id.0 time.0 bits) count
         (strings_at count from.now first.0)).outcome }
@@ -115,17 +112,14 @@ pub fn add_exemplar_from(
         (strings_at count from.now first.0)).buffer }
 {
     let at = body.used.0;
-    let list = list_size(from, first.0, count);
-    let row = row_len(&*buffer, at, id, time);
-    let size = row + list.size;
-    match admit(&*buffer, body.tag, at, EXEMPLARS, list.bad, size) {
-        Gate::Open => {
-            let next = put_exemplar(from, first.0, count, buffer, at, id, time, bits);
-            body.used.0 = next;
-            Added::Next(body)
-        }
-        Gate::Shut(why) => Added::Refused(why),
-    }
+    let row = row_len(buffer, at, id, time);
+    let size = entry_size(row, from, first.0, count);
+    admit(buffer, body.tag, at, EXEMPLARS, size)?;
+    let next = put_exemplar(from, first.0, count, buffer, at, id, time, bits);
+    Ok(Body {
+        used: Offset(next),
+        ..body
+    })
 }
 
 // ---- metadata
@@ -153,14 +147,14 @@ fn put_metadata(
 // One metadata entry more: its name and text are the `count` strings of the body `from`, from place
 // `first` on.
 pub fn add_metadata_from(
-    mut body: Body,
+    body: Body,
     buffer: &mut [u8],
     id: SeriesId,
     metric: u8,
     from: &[u8],
     first: Offset,
     count: usize,
-) -> Added
+) -> Result<Body, Refusal>
     ensures answer { result ≡ added_of body.tag
         (adding buffer.old body.tag body.used.0 (metadata_entry id.0 metric) count
         (strings_at count from.now first.0)).outcome }
@@ -169,15 +163,12 @@ pub fn add_metadata_from(
         (strings_at count from.now first.0)).buffer }
 {
     let at = body.used.0;
-    let list = list_size(from, first.0, count);
     let head = uvarint::uvarint_len(id.0) + 1;
-    let size = head + list.size;
-    match admit(&*buffer, body.tag, at, METADATA, list.bad, size) {
-        Gate::Open => {
-            let next = put_metadata(from, first.0, count, buffer, at, id, metric);
-            body.used.0 = next;
-            Added::Next(body)
-        }
-        Gate::Shut(why) => Added::Refused(why),
-    }
+    let size = entry_size(head, from, first.0, count);
+    admit(buffer, body.tag, at, METADATA, size)?;
+    let next = put_metadata(from, first.0, count, buffer, at, id, metric);
+    Ok(Body {
+        used: Offset(next),
+        ..body
+    })
 }

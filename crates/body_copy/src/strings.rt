@@ -1,124 +1,65 @@
 // Strings taken out of another body, each read at its place and written after its length. A length
 // that was longer than needed is written as short as it can be.
-ghost use Rattle.std.specs.Prelude.{◌≡◌, false, ◌+◌, ◌≤◌, length};
+ghost use Rattle.std.specs.Prelude.{◌≡◌, ◌+◌, ◌≤◌, length, IfSome, is_none};
 ghost use Rattle.std.proofs.lemmas.List.Edits.{sets};
 ghost use Rattle.body_format.specs.Fields.{string_at, strings_at};
-ghost use Rattle.body_format.specs.Building.{string_list_bytes};
 ghost use Rattle.body_builder.specs.Laws.Putting.{Put};
-ghost use Rattle.body_copy.specs.Taking.{strings_taken, bad_strings};
-ghost use Rattle.body_copy.specs.Forms.{measured_of, size_taken, bytes_of, after_of, strings_from, list_from};
+ghost use Rattle.body_copy.specs.Taking.{bad_strings};
+ghost use Rattle.body_copy.specs.Forms.{measured_of, size_taken, bytes_of, copied_of, strings_from, list_from};
 
-use body_fields::{StringRead, string_field_at};
-
-// The bytes that a string takes, and the place after it in the other body; or it cannot be read.
-#[derive(Clone, Copy)]
-enum Measured {
-    Got { size: usize, next: usize },
-    Bad,
-}
-
-// The bytes that strings take; or one of them cannot be read.
-#[derive(Clone, Copy)]
-enum Taken {
-    Size(usize),
-    Bad,
-}
-
-// The bytes that a list of strings takes, and whether it is bad.
-#[derive(Clone, Copy)]
-pub(crate) struct List {
-    pub size: usize,
-    pub bad: bool,
-}
-
-// The places after a string: in the buffer, and in the other body.
-#[derive(Clone, Copy)]
-struct Copied {
-    pub place: usize,
-    pub next: usize,
-}
+use body_fields::string_field_at;
 
 // ---- sizes
 
-// The string at a place.
-fn string_size(from: &[u8], at: usize) -> Measured
+// The bytes that the string at a place takes, and the place after it in the other body.
+fn string_size(from: &[u8], at: usize) -> Option<(usize, usize)>
     ensures { result ≡ measured_of (string_at from.now at) }
 {
-    match string_field_at(from, at) {
-        StringRead::Got {
-            start: _,
-            length,
-            next,
-        } => {
-            let head = uvarint::uvarint_len(length as u64);
-            let size = head + length;
-            Measured::Got { size, next }
-        }
-        StringRead::Fault(_) => Measured::Bad,
-    }
+    let (_, length, next) = string_field_at(from, at).ok()?;
+    Some((uvarint::uvarint_len(length as u64) + length, next))
 }
 
 // So many strings from a place on. None takes more bytes than it does where it stands.
-fn strings_size(from: &[u8], first: usize, count: usize) -> Taken
+fn strings_size(from: &[u8], first: usize, count: usize) -> Option<usize>
     ensures { result ≡ size_taken 0 (strings_at count from.now first) }
 {
     let mut at = first;
-    let mut total: usize = 0;
-    let mut left = count;
-    while 0 < left {
-        match string_size(from, at) {
-            Measured::Got { size, next } => {
-                total += size;
-                at = next;
-            }
-            Measured::Bad => {
-                return Taken::Bad;
-            }
-        }
-        left -= 1;
+    let mut total = 0;
+    for _ in 0..count {
+        let (size, next) = string_size(from, at)?;
+        total += size;
+        at = next;
     }
-    Taken::Size(total)
+    Some(total)
 }
 
-// The list of so many strings from a place on; a bad one has any size.
-pub(crate) fn list_size(from: &[u8], first: usize, count: usize) -> List
-    ensures { (result.bad ≡ bad_strings count (strings_at count from.now first))
-        × (result.bad ≡ false → result.size ≡ length (list_from count from.now first))
-        × (result.size ≤ length from.now + 10) }
+// So many bytes, and the list of so many strings from a place on. A bad list has no size (BadList,
+// FORMAT 10.5): a string that cannot be read, or an odd number of them.
+pub(crate) fn entry_size(head: usize, from: &[u8], first: usize, count: usize) -> Option<usize>
+    requires { head ≤ 100 }
+    ensures { (is_none result ≡ bad_strings count (strings_at count from.now first))
+        × IfSome result (λ n. n ≡ head + length (list_from count from.now first)) }
 {
-    match strings_size(from, first, count) {
-        Taken::Size(strings) => {
-            let pairs = (count / 2) as u64;
-            let head = uvarint::uvarint_len(pairs);
-            let size = head + strings;
-            let bad = count % 2 == 1;
-            List { size, bad }
-        }
-        Taken::Bad => List { size: 0, bad: true },
+    if count % 2 == 1 {
+        return None;
     }
+    let strings = strings_size(from, first, count)?;
+    Some(head + uvarint::uvarint_len((count / 2) as u64) + strings)
 }
 
 // ---- writing, at a place that has room
 
-// The string at a place: its length, and its bytes.
-fn put_string(from: &[u8], at: usize, buffer: &mut [u8], place: usize) -> Copied
+// The string at a place of the other body: its length, and its bytes. The places after both; one
+// that cannot be read has no bytes.
+fn put_string(from: &[u8], at: usize, buffer: &mut [u8], place: usize) -> Option<(usize, usize)>
     requires { place + length (bytes_of (string_at from.now at)) ≤ length buffer.old }
-    ensures { (result.next ≡ after_of at (string_at from.now at))
-        × Put buffer.old place (bytes_of (string_at from.now at)) buffer.new result.place }
+    ensures { (result ≡ copied_of place (string_at from.now at))
+        × (buffer.new ≡ sets buffer.old place (bytes_of (string_at from.now at))) }
 {
-    match string_field_at(from, at) {
-        StringRead::Got {
-            start,
-            length,
-            next,
-        } => {
-            let first = uvarint::put_uvarint(buffer, place, length as u64);
-            byte_copy::copy(from, start, length, buffer, first);
-            let end = first + length;
-            Copied { place: end, next }
-        }
-        StringRead::Fault(_) => Copied { place, next: at },
-    }
+    let (start, length, next) = string_field_at(from, at).ok()?;
+    let first = uvarint::put_uvarint(buffer, place, length as u64);
+    byte_copy::copy(from, start, length, buffer, first);
+    Some((first + length, next))
 }
 
 // So many strings from a place on; the place after them.
@@ -128,12 +69,12 @@ fn put_strings(from: &[u8], first: usize, count: usize, buffer: &mut [u8], at: u
 {
     let mut place = at;
     let mut next = first;
-    let mut left = count;
-    while 0 < left {
-        let copied = put_string(from, next, buffer, place);
-        place = copied.place;
-        next = copied.next;
-        left -= 1;
+    for _ in 0..count {
+        let Some((end, after)) = put_string(from, next, buffer, place) else {
+            return place;
+        };
+        place = end;
+        next = after;
     }
     place
 }

@@ -1,25 +1,20 @@
 -- Elements of another body: one read, and several that are measured or written one after another.
-use mathlib.Core.Path.{◌≡◌, refl, sym, ap, ap₂, ◌∙◌}
-use mathlib.Core.Bool.{Bool, true, false}
-use mathlib.Core.List.{List, [], ◌++◌}
-use Prim.Native.Nat.{ℕ, suc, ◌+◌, ◌-◌, ◌≤◌, ◌<◌}
-use native.Mathlib.Omega.{arith}
-use borrow.Author.Tests.{leb-true, leb-false}
-use lib.Dec.{leb}
-use lib.IntN.{ℤ}
-use lib.ListN.{length, length-append}
-use lib.Seq.{sets, length-sets}
+use Rattle.std.proofs.Common.{◌≡◌, refl, sym, ap, ap₂, ◌∙◌, Bool, true, false, List, [], ◌++◌, ℕ, zero, suc, ◌+◌, ◌-◌, ◌≤◌, ◌<◌, arith, leb-true, leb-false, leb, ℤ, length, length-append}
+use Rattle.std.proofs.lemmas.List.Edits.{sets}
+use Rattle.std.proofs.Math.Seq.{length-sets}
 use Rattle.byte_copy.specs.CopiedLaws.{sets-append}
 use Rattle.byte_copy.specs.Put.{put_at, put_end}
-use Rattle.byte_copy.specs.PutLaws.{put-fits, end_fits, put_not, end_not}
+use Rattle.byte_copy.specs.PutLaws.{put-fits, put_not}
+use Rattle.std.specs.Prelude.{Option, Some, None, Result, Ok, Err}
+use Rattle.std.specs.Result.{result_ok}
 use Rattle.wal_types.specs.declared.Refusal.{Refusal}
 use Rattle.wal_types.specs.declared.Offset.{Offset}
 use Rattle.wal_types.specs.Terms.{offset}
 use Rattle.body_format.specs.declared.Element.{Element}
-use Rattle.body_format.specs.declared.SpanAnswer.{SpanAnswer}
-use Rattle.body_format.specs.declared.SpanAnswer.TheVariants as span
-use Rattle.body_format.specs.declared.BucketAnswer.{BucketAnswer}
-use Rattle.body_format.specs.declared.BucketAnswer.TheVariants as bucket
+use Rattle.body_format.specs.Results.SpanAnswer.{SpanAnswer}
+use Rattle.body_format.specs.Results.SpanAnswer as span
+use Rattle.body_format.specs.Results.BucketAnswer.{BucketAnswer}
+use Rattle.body_format.specs.Results.BucketAnswer as bucket
 use Rattle.body_format.specs.Fields.{Field, got, fault}
 use Rattle.body_format.specs.Histograms.{Span, Item, item_at, item_bytes}
 use Rattle.body_format.specs.Reading.{answer_span, answer_bucket}
@@ -27,42 +22,42 @@ use Rattle.body_fields.specs.Laws.{never}
 use Rattle.body_builder.specs.Laws.Putting.{Put, put_last}
 use Rattle.body_builder.specs.Laws.Additions.{Sized, exact, above}
 use Rattle.body_builder_histogram.specs.Lent.{span_of}
-use Rattle.body_copy_histogram.specs.declared.items.Measured.{Measured}
-use Rattle.body_copy_histogram.specs.Forms.{bytes_of, after_of, measured_of, items_from}
+use Rattle.body_copy_histogram.specs.Forms.{bytes_of, after_of, measured_of, copied_of, items_from}
 
 -- ---- what an answer says of the reading
 
 pub span-got : (f : Field Span) (r : SpanAnswer) {g : ℤ} {n : ℕ} {q : Offset} → r ≡ answer_span f → r ≡ span.Found g n q → f ≡ got (span_of g n) q.0
 span-got (got a p) r {g} {n} {q} e h =
-    let x : a.gap ≡ g = cc in
-    let y : a.size ≡ n = cc in
-    let z : offset p ≡ q = cc in
-    rw (← x, ← y, ← z)
+    let v : ◌≡◌ {A = ℤ × ℕ × Offset} (a.gap, a.size, offset p) (g, n, q) = cc in
+    ap (λ (w : ℤ × ℕ × Offset). got (span_of w.0 w.1) w.2.0) v
 span-got (fault w) r e h = never cc
-
-pub span-fault : (f : Field Span) (r : SpanAnswer) {why : Refusal} → r ≡ answer_span f → r ≡ span.Refused why → f ≡ fault why
-span-fault (got a p) r e h = never cc
-span-fault (fault w) r e h = cc
 
 pub bucket-got : (f : Field ℕ) (r : BucketAnswer) {v : ℕ} {q : Offset} → r ≡ answer_bucket f → r ≡ bucket.Found v q → f ≡ got v q.0
 bucket-got (got a p) r {v} {q} e h =
-    let x : a ≡ v = cc in
-    let z : offset p ≡ q = cc in
-    rw (← x, ← z)
+    let w : ◌≡◌ {A = ℕ × Offset} (a, offset p) (v, q) = cc in
+    ap (λ (w : ℕ × Offset). got w.0 w.1.0) w
 bucket-got (fault w) r e h = never cc
 
-pub bucket-fault : (f : Field ℕ) (r : BucketAnswer) {why : Refusal} → r ≡ answer_bucket f → r ≡ bucket.Refused why → f ≡ fault why
-bucket-fault (got a p) r e h = never cc
-bucket-fault (fault w) r e h = cc
+-- an `Ok` that was asked for
+ok_some : {A E : Type 0} (r : Result A E) (v : A) → result_ok r ≡ Some v → r ≡ Ok v
+ok_some (Ok x) v e = cc
+ok_some (Err why) v e = never cc
+
+pub span-read : (f : Field Span) (r : SpanAnswer) {g : ℤ} {n : ℕ} {q : Offset} → r ≡ answer_span f → result_ok r ≡ Some (g, n, q) → f ≡ got (span_of g n) q.0
+span-read f r e h = span-got f r e (ok_some r _ h)
+
+pub span-unread : (f : Field Span) → result_ok (answer_span f) ≡ None → (why : Refusal) × (f ≡ fault why)
+span-unread (got a p) h = never cc
+span-unread (fault w) h = (w, refl)
+
+pub bucket-read : (f : Field ℕ) (r : BucketAnswer) {v : ℕ} {q : Offset} → r ≡ answer_bucket f → result_ok r ≡ Some (v, q) → f ≡ got v q.0
+bucket-read f r e h = bucket-got f r e (ok_some r _ h)
+
+pub bucket-unread : (f : Field ℕ) → result_ok (answer_bucket f) ≡ None → (why : Refusal) × (f ≡ fault why)
+bucket-unread (got a p) h = never cc
+bucket-unread (fault w) h = (w, refl)
 
 -- no bytes change nothing, wherever they are put
-end_none : (b : List ℕ) (at : ℕ) → put_end b at [] ≡ at
-end_none b at = go (leb (at + 0) (length b)) refl
-  where
-    go : (t : Bool) → leb (at + 0) (length b) ≡ t → put_end b at [] ≡ at
-    go true e = end_fits b at [] (leb-true (at + 0) (length b) e) ∙ omega arith
-    go false e = end_not b at [] (leb-false (at + 0) (length b) e)
-
 put-none : (b : List ℕ) (at : ℕ) → put_at b at [] ≡ b
 put-none b at = go (leb (at + 0) (length b)) refl
   where
@@ -72,39 +67,66 @@ put-none b at = go (leb (at + 0) (length b)) refl
 
 -- ---- one, measured and written
 
-module _ (x : Element) (f : Field (Item x)) (p : ℕ) where
-  pub measured_got : (a : Item x) (n q : ℕ) → f ≡ got a q → n ≡ length (item_bytes x a) → ◌≡◌ {A = Measured} (record { size = n; next = q }) (measured_of x p f)
-  measured_got a n q e h = ap (λ (m : ℕ). record { size = m; next = q }) h ∙ sym (ap (measured_of x p) e)
+module _ (x : Element) (f : Field (Item x)) where
+  pub measured_got : (a : Item x) (n q : ℕ) → f ≡ got a q → n ≡ length (item_bytes x a) → ◌≡◌ {A = Option (ℕ × ℕ)} (Some (n, q)) (measured_of x f)
+  measured_got a n q e h = rw (e, h) refl
 
-  pub measured_none : {why : Refusal} → f ≡ fault why → ◌≡◌ {A = Measured} (record { size = 0; next = p }) (measured_of x p f)
-  measured_none e = sym (ap (measured_of x p) e)
+  pub copied-got : (b : List ℕ) (place : ℕ) (a : Item x) (q : ℕ) → f ≡ got a q → (b₁ : List ℕ) (r : ℕ) → r ≡ put_end b place (item_bytes x a) → b₁ ≡ put_at b place (item_bytes x a)
+      → ◌≡◌ {A = Option (ℕ × ℕ)} (Some (r, q)) (copied_of x b place f) × (b₁ ≡ put_at b place (bytes_of x f))
+  copied-got b place a q e b₁ r g h = rw (e, g) (refl, h)
 
-  module _ (b : List ℕ) (place : ℕ) where
-    pub copied-got : (a : Item x) (q : ℕ) → f ≡ got a q → (b₁ : List ℕ) (r : ℕ) → r ≡ put_end b place (item_bytes x a) → b₁ ≡ put_at b place (item_bytes x a)
-        → (q ≡ after_of p f) × (r ≡ put_end b place (bytes_of x f)) × (b₁ ≡ put_at b place (bytes_of x f))
-    copied-got a q e b₁ r g h = (
-      sym (ap (after_of p) e),
-      g ∙ sym (ap (λ (y : Field (Item x)). put_end b place (bytes_of x y)) e),
-      h ∙ sym (ap (λ (y : Field (Item x)). put_at b place (bytes_of x y)) e),
-    )
+  -- what the answer says of it
+  pub measured-told : (n q : ℕ) → ◌≡◌ {A = Option (ℕ × ℕ)} (Some (n, q)) (measured_of x f) → (n ≡ length (bytes_of x f)) × ((p : ℕ) → q ≡ after_of p f)
+  measured-told n q e = go f e
+    where
+      go : (g : Field (Item x)) → ◌≡◌ {A = Option (ℕ × ℕ)} (Some (n, q)) (measured_of x g) → (n ≡ length (bytes_of x g)) × ((p : ℕ) → q ≡ after_of p g)
+      go (got a r) k =
+          let v : ◌≡◌ {A = ℕ × ℕ} (n, q) (length (item_bytes x a), r) = cc in
+          (ap (λ (w : ℕ × ℕ). w.0) v, λ p. ap (λ (w : ℕ × ℕ). w.1) v)
+      go (fault why) k = never cc
 
-    pub copied_none : {why : Refusal} → f ≡ fault why
-        → (p ≡ after_of p f) × (place ≡ put_end b place (bytes_of x f)) × (b ≡ put_at b place (bytes_of x f))
-    copied_none e = (
-      sym (ap (after_of p) e),
-      sym (ap (λ (y : Field (Item x)). put_end b place (bytes_of x y)) e ∙ end_none b place),
-      sym (ap (λ (y : Field (Item x)). put_at b place (bytes_of x y)) e ∙ put-none b place),
-    )
+  pub copied-told : (b : List ℕ) (place r q : ℕ) → ◌≡◌ {A = Option (ℕ × ℕ)} (Some (r, q)) (copied_of x b place f) → (r ≡ put_end b place (bytes_of x f)) × ((p : ℕ) → q ≡ after_of p f)
+  copied-told b place r q e = go f e
+    where
+      go : (g : Field (Item x)) → ◌≡◌ {A = Option (ℕ × ℕ)} (Some (r, q)) (copied_of x b place g) → (r ≡ put_end b place (bytes_of x g)) × ((p : ℕ) → q ≡ after_of p g)
+      go (got a t) k =
+          let v : ◌≡◌ {A = ℕ × ℕ} (r, q) (put_end b place (item_bytes x a), t) = cc in
+          (ap (λ (w : ℕ × ℕ). w.0) v, λ p. ap (λ (w : ℕ × ℕ). w.1) v)
+      go (fault why) k = never cc
+
+  pub unread : None ≡ measured_of x f → (bytes_of x f ≡ []) × ((p : ℕ) → after_of p f ≡ p)
+  unread e = go f e
+    where
+      go : (g : Field (Item x)) → None ≡ measured_of x g → (bytes_of x g ≡ []) × ((p : ℕ) → after_of p g ≡ p)
+      go (got a t) k = never cc
+      go (fault why) k = (refl, λ p. refl)
+
+  pub uncopied : (b : List ℕ) (place : ℕ) → None ≡ copied_of x b place f → (bytes_of x f ≡ []) × ((p : ℕ) → after_of p f ≡ p)
+  uncopied b place e = go f e
+    where
+      go : (g : Field (Item x)) → None ≡ copied_of x b place g → (bytes_of x g ≡ []) × ((p : ℕ) → after_of p g ≡ p)
+      go (got a t) k = never cc
+      go (fault why) k = (refl, λ p. refl)
+
+  -- one that cannot be read
+  pub copied_none : (b : List ℕ) (place : ℕ) {why : Refusal} → f ≡ fault why
+      → (copied_of x b place f ≡ None) × (b ≡ put_at b place (bytes_of x f))
+  copied_none b place e = rw e (refl, sym (put-none b place))
+
+-- after one that cannot be read there is none
+none-left : (x : Element) (s : List ℕ) (n p : ℕ) → bytes_of x (item_at x s p) ≡ [] → after_of p (item_at x s p) ≡ p → items_from x n s p ≡ []
+unfolding items_from
+none-left x s zero p e f = refl
+none-left x s (suc n) p e f = rw (e, f) (none-left x s n p e f)
 
 -- the same, for an element that is known to be y
-pub measured_as : (x y : Element) (s : List ℕ) (p : ℕ) → x ≡ y → {m : Measured}
-    → (m ≡ measured_of y p (item_at y s p)) × (m.size ≤ 20) → (m ≡ measured_of x p (item_at x s p)) × (m.size ≤ 20)
+pub measured_as : (x y : Element) (s : List ℕ) (p : ℕ) → x ≡ y → {m : Option (ℕ × ℕ)} → m ≡ measured_of y (item_at y s p) → m ≡ measured_of x (item_at x s p)
 measured_as x y s p e h = rw e h
 
-pub copied_as : (x y : Element) (s : List ℕ) (p : ℕ) (b : List ℕ) (place : ℕ) (b₁ : List ℕ) (q r : ℕ) → x ≡ y
-    → (q ≡ after_of p (item_at y s p)) × (r ≡ put_end b place (bytes_of y (item_at y s p))) × (b₁ ≡ put_at b place (bytes_of y (item_at y s p)))
-    → (q ≡ after_of p (item_at x s p)) × (r ≡ put_end b place (bytes_of x (item_at x s p))) × (b₁ ≡ put_at b place (bytes_of x (item_at x s p)))
-copied_as x y s p b place b₁ q r e h = rw e h
+pub copied_as : (x y : Element) (s : List ℕ) (p : ℕ) (b : List ℕ) (place : ℕ) → x ≡ y → {m : Option (ℕ × ℕ)} {b₁ : List ℕ}
+    → (m ≡ copied_of y b place (item_at y s p)) × (b₁ ≡ put_at b place (bytes_of y (item_at y s p)))
+    → (m ≡ copied_of x b place (item_at x s p)) × (b₁ ≡ put_at b place (bytes_of x (item_at x s p)))
+copied_as x y s p b place e h = rw e h
 
 -- ---- several, measured
 
@@ -130,6 +152,12 @@ module _ (x : Element) (s : List ℕ) (first count : ℕ) where
 
     pub size_above : 65536 < total + n → Sized 65537 (length (items_from x count s first))
     size_above big = above (omega arith) (omega (arith, more))
+
+  -- one that cannot be read is the last
+  pub size-unread : (at total left : ℕ) → Sizing at total left → None ≡ measured_of x (item_at x s at) → Sized total (length (items_from x count s first))
+  size-unread at total left i e =
+      let u = unread x (item_at x s at) e in
+      exact (omega (arith, i.whole, ap length (none-left x s left at u.0 (u.1 at))))
 
   pub size-done : (at total : ℕ) → Sizing at total 0 → Sized total (length (items_from x count s first))
   unfolding items_from
@@ -175,6 +203,17 @@ module _ (x : Element) (s : List ℕ) (first count : ℕ) (b₀ : List ℕ) (at 
               ∙ ap (sets b place) (sym split)
               ∙ l.same;
         }
+
+  -- one that cannot be read is the last, and changes nothing
+  pub items-unread : (b : List ℕ) (place next left : ℕ) → Laying b place next left → (b₁ : List ℕ)
+      → (None ≡ copied_of x b place (item_at x s next)) × (b₁ ≡ put_at b place (bytes_of x (item_at x s next)))
+      → Put b₀ at (items_from x count s first) b₁ place
+  items-unread b place next left l b₁ (e, f) =
+      let u = uncopied x (item_at x s next) b place e in
+      let none = none-left x s left next u.0 (u.1 next) in
+      let end = rw none at l.end in
+      let same = rw none at l.same in
+      (omega (arith, end), rw u.0 at f ∙ put-none b place ∙ same)
 
   pub items-laid : (b : List ℕ) (place next : ℕ) → Laying b place next 0 → Put b₀ at (items_from x count s first) b place
   unfolding items_from

@@ -1,10 +1,7 @@
--- A histogram that was read in another body: what is written of its view is what the format writes of
--- the entry, and its addition.
-use mathlib.Core.Path.{◌≡◌, refl, sym, ap, ap₂, ◌∙◌}
-use mathlib.Core.Bool.{false}
-use mathlib.Core.List.{List, ◌++◌, append_assoc}
-use Prim.Native.Nat.{ℕ, zero, suc}
-use lib.ListN.{length}
+-- A histogram that was read in another body: what is written of its view is what the format writes
+-- of the entry, and its addition.
+use Rattle.std.proofs.Common.{◌≡◌, refl, sym, ap, ap₂, ◌∙◌, false, List, ◌++◌, append_assoc, ℕ, zero, suc, length}
+use Rattle.std.specs.Prelude.{Option, Some, None, Err, ok_or}
 use Rattle.wal_types.specs.declared.Refusal.{Refusal}
 use Rattle.wal_types.specs.declared.Refusal.TheVariants.{BadPlace}
 use Rattle.wal_types.specs.Deltas.{to_bits}
@@ -12,11 +9,11 @@ use Rattle.uvarint.specs.Uvarint.{uvarint}
 use Rattle.body_format.specs.declared.BucketKind.{BucketKind}
 use Rattle.body_format.specs.declared.Element.{Element}
 use Rattle.body_format.specs.declared.Element.TheVariants as element
-use Rattle.body_format.specs.declared.EntryPlace.{EntryPlace}
-use Rattle.body_format.specs.declared.EntryPlace.TheVariants as place
+use Rattle.body_format.specs.Results.EntryPlace.{EntryPlace}
+use Rattle.body_format.specs.Results.EntryPlace as place
 use Rattle.body_format.specs.declared.HistogramView.{HistogramView}
-use Rattle.body_format.specs.declared.HistogramAnswer.{HistogramAnswer}
-use Rattle.body_format.specs.declared.HistogramAnswer.TheVariants as histogram
+use Rattle.body_format.specs.Results.HistogramAnswer.{HistogramAnswer}
+use Rattle.body_format.specs.Results.HistogramAnswer as histogram
 use Rattle.body_format.specs.Fields.{Field, got, fault, and_then, uvarint_at}
 use Rattle.body_format.specs.Heads.{head_at, head_bytes}
 use Rattle.body_format.specs.Histograms.{Span, Item, item_at, items_at, items_bytes, Listed, list_at, list_bytes, Sides, sides_at, sides_bytes, map_sides, lists_at, lists_bytes, numbers_at, numbers_bytes, Histogram, histogram_at, histogram_bytes, bare, firsts}
@@ -26,7 +23,7 @@ use Rattle.body_format.specs.Building.{entry_bytes, add, add_bytes}
 use Rattle.body_format.proofs.Laws.Bounds.{Every, every_then, of_got}
 use Rattle.body_format.proofs.Laws.Histograms.{items-counted}
 use Rattle.body_fields.specs.Laws.{never}
-use Rattle.body_builder.specs.declared.Added.TheVariants.{Refused}
+use Rattle.body_builder.specs.Results.Added.{Refused}
 use Rattle.body_builder.specs.Answers.{added_of}
 use Rattle.body_builder_histogram.specs.Front.{front_bytes}
 use Rattle.body_copy_histogram.specs.Found.{placed_there, entry_found, adding_found}
@@ -169,3 +166,8 @@ module _ (b : List ℕ) (t u : ℕ) (k : BucketKind) (s : List ℕ) where
           at (fault why) z = never cc
       go place.End h = (refl, refl)
       go (place.Refused w) h = never cc
+
+-- the plain end of the body is a BadPlace
+pub no_view : (o : Option HistogramView) (e w : Refusal) → ok_or o e ≡ Err w → (o ≡ None) × (w ≡ e)
+no_view None e w h = (refl, cc)
+no_view (Some v) e w h = never cc

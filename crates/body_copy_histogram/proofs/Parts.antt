@@ -1,13 +1,6 @@
--- Two parts in a row: their size, the room for each, and both of them written. Also the gate that is
--- asked for them.
-use mathlib.Core.Path.{◌≡◌, refl, sym, ◌∙◌}
-use mathlib.Core.Bool.{Bool, true, false, cond, not}
-use mathlib.Core.List.{List, ◌++◌}
-use Prim.Native.Nat.{ℕ, ◌+◌, ◌≤◌}
-use native.Mathlib.Omega.{arith}
-use borrow.Author.Tests.{ltb-false}
-use lib.Dec.{ltb, eqb}
-use lib.ListN.{length, length-append}
+-- Two parts in a row: their size, the room for each, and both of them written. Also the gate that
+-- is asked for them.
+use Rattle.std.proofs.Common.{◌≡◌, refl, sym, ◌∙◌, Bool, true, false, cond, not, List, ◌++◌, ℕ, ◌+◌, ◌≤◌, arith, ltb-false, ltb, eqb, length, length-append}
 use Rattle.wal_types.specs.declared.Refusal.{Refusal}
 use Rattle.wal_types.specs.declared.Refusal.TheVariants.{BadPlace, WrongKind, TooLong, NoRoom}
 use Rattle.wal_types.specs.Terms.{offset}
@@ -23,13 +16,14 @@ use Rattle.body_format.specs.declared.HistogramView.{HistogramView}
 use Rattle.body_format.specs.Entries.{Entry, type_byte, body_type_for}
 use Rattle.body_format.specs.Building.{used, refused, bad_state, entry_bytes, add, add_bytes}
 use Rattle.body_fields.specs.Laws.{never}
-use Rattle.body_builder.specs.declared.admission.Gate.{Gate}
-use Rattle.body_builder.specs.declared.admission.Gate.TheVariants.{Open, Shut}
-use Rattle.body_builder.specs.declared.Added.TheVariants.{Next, Refused}
+use Rattle.body_builder.specs.Results.Gate.{Gate}
+use Rattle.body_builder.specs.Results.Gate.{Open, Shut}
+use Rattle.std.specs.Prelude.{Some, IsErrAnd}
+use Rattle.body_builder.specs.Results.Added.{Added, Next}
 use Rattle.body_builder.specs.Answers.{added_of}
 use Rattle.body_builder.specs.Sizes.{gate_for, decided}
 use Rattle.body_builder.specs.Laws.Putting.{Put, put_last, room_then, put_then}
-use Rattle.body_builder.specs.Laws.Additions.{Sized, exact, above, both_sized, opened, shut, finished}
+use Rattle.body_builder.specs.Laws.Additions.{Sized, exact, above, both_sized, opened, turned_away, finished}
 use Rattle.body_builder_histogram.specs.Front.{front_bytes}
 use Rattle.body_copy_histogram.specs.Forms.{items_from, list_from, sides_from, lists_from, view_bytes}
 
@@ -128,6 +122,6 @@ module _ (b : List ℕ) (t u want n : ℕ) (w : List ℕ) (r : Gate) (g : r ≡ 
         → (Next (record { tag = t; used = offset next }) ≡ added_of t (add b t u e false)) × (d ≡ add_bytes (add b t u e false) b u e)
     open_done h d next p = finished b t u e false d next (opened b t u e false n size r gate h) (rw bytes p)
 
-    pub shut_done : {why : Refusal} → r ≡ Shut why
-        → (Refused why ≡ added_of t (add b t u e false)) × (b ≡ add_bytes (add b t u e false) b u e)
-    shut_done h = shut b t u e false n size r gate h
+    pub shut_done : {why : Refusal} → r ≡ Shut why → (x : Added) → IsErrAnd x (λ y. y ≡ why)
+        → (x ≡ added_of t (add b t u e false)) × (b ≡ add_bytes (add b t u e false) b u e)
+    shut_done h x k = turned_away b t u e false (Some n) (refl, size) r gate h x k

@@ -1,6 +1,7 @@
--- The forms that the code's loops have: an element measured, elements and lists as they are written.
+-- The forms that the code's loops have: an element measured, elements and lists as they are
+-- written.
 -- Assumes nothing.
-use Rattle.std.specs.Prelude.{List, [], ◌++◌, ℕ, zero, suc, length}
+use Rattle.std.specs.Prelude.{List, [], ◌++◌, ℕ, zero, suc, length, Option, Some, None}
 use Rattle.wal_types.specs.Deltas.{to_bits}
 use Rattle.uvarint.specs.Uvarint.{uvarint}
 use Rattle.body_format.specs.declared.BucketKind.{BucketKind}
@@ -12,7 +13,7 @@ use Rattle.body_format.specs.declared.HistogramView.{HistogramView}
 use Rattle.body_format.specs.Fields.{Field, got, fault}
 use Rattle.body_format.specs.Histograms.{Item, item_at, item_bytes}
 use Rattle.body_builder_histogram.specs.Front.{front_bytes}
-use Rattle.body_copy_histogram.specs.declared.items.Measured.{Measured}
+use Rattle.byte_copy.specs.Put.{put_end}
 
 -- the bytes of an element; none where it cannot be read
 abbrev pub bytes_of : (x : Element) → Field (Item x) → List ℕ
@@ -24,8 +25,15 @@ abbrev pub after_of : {A : Type 0} → ℕ → Field A → ℕ
 after_of p (got a q) = q
 after_of p (fault why) = p
 
-abbrev pub measured_of : (x : Element) → ℕ → Field (Item x) → Measured
-measured_of x p f = record { size = length (bytes_of x f); next = after_of p f }
+-- the bytes of an element, and the place after it; or it cannot be read
+abbrev pub measured_of : (x : Element) → Field (Item x) → Option (ℕ × ℕ)
+measured_of x (got a q) = Some (length (item_bytes x a), q)
+measured_of x (fault why) = None
+
+-- the places after an element that is put at a place of b, and after the one that was read
+abbrev pub copied_of : (x : Element) → List ℕ → ℕ → Field (Item x) → Option (ℕ × ℕ)
+copied_of x b place (got a q) = Some (put_end b place (item_bytes x a), q)
+copied_of x b place (fault why) = None
 
 -- the bytes of n elements in a row, from place p of s on
 unfoldable pub items_from : Element → ℕ → List ℕ → ℕ → List ℕ

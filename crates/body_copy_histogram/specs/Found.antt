@@ -2,8 +2,8 @@
 -- To be believed. Assumes nothing.
 use Rattle.std.specs.Prelude.{false, List, ℕ}
 use Rattle.wal_types.specs.declared.Refusal.TheVariants.{BadPlace}
-use Rattle.body_format.specs.declared.EntryPlace.{EntryPlace}
-use Rattle.body_format.specs.declared.EntryPlace.TheVariants as place
+use Rattle.body_format.specs.Results.EntryPlace.{EntryPlace}
+use Rattle.body_format.specs.Results.EntryPlace as place
 use Rattle.body_format.specs.Fields.{Field, got, fault}
 use Rattle.body_format.specs.Entries.{BodyType, Placed, entry_at}
 use Rattle.body_format.specs.Reading.{entry_place}
@@ -20,8 +20,8 @@ placed_there k s (place.Refused why) = fault why
 abbrev pub entry_found : BodyType → List ℕ → ℕ → Field Placed
 entry_found k s p = placed_there k s (entry_place k s p)
 
--- adding it to the state (t, u) of a body in buffer b; where it cannot be read, its own refusal, and
--- no byte changes
+-- adding it to the state (t, u) of a body in buffer b; where it cannot be read, its own refusal,
+-- and no byte changes
 abbrev pub adding_found : List ℕ → ℕ → ℕ → Field Placed → BuildResult
 adding_found b t u (got e q) = record {
   outcome = add b t u e.entry false;

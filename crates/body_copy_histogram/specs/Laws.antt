@@ -3,10 +3,10 @@
 use Rattle.std.specs.Prelude.{◌≡◌, refl, List, ℕ}
 use Rattle.std.proofs.Common.{ap}
 use Rattle.wal_types.specs.Terms.{offset}
-use Rattle.body_format.specs.declared.EntryPlace.{EntryPlace}
-use Rattle.body_format.specs.declared.EntryPlace.TheVariants as place
+use Rattle.body_format.specs.Results.EntryPlace.{EntryPlace}
+use Rattle.body_format.specs.Results.EntryPlace as place
 use Rattle.body_format.specs.declared.EntryView.{EntryView}
-use Rattle.body_format.specs.declared.EntryAnswer.TheVariants as answer
+use Rattle.body_format.specs.Results.EntryAnswer as answer
 use Rattle.body_format.specs.Fields.{Field, got, fault}
 use Rattle.body_format.specs.Entries.{BodyType, known, Placed, entry_at}
 use Rattle.body_format.specs.Reading.{view, answer_entry, entry_place, entry_there, entry_known}

@@ -1,73 +1,33 @@
 // The elements of a list of another body, spans or buckets: each is read at its place, and written
-// as short as it can be. One that cannot be read has no bytes, and the place after it is its own; a
-// histogram that was read has none.
-ghost use Rattle.std.specs.Prelude.{◌≡◌, ◌+◌, ◌≤◌, length};
-ghost use Rattle.byte_copy.specs.Put.{put_at, put_end};
-ghost use Rattle.body_format.specs.declared.Element.TheVariants.{Span as «TheSpan», Bucket};
-ghost use Rattle.body_format.specs.Histograms.{span_at, bucket_at, item_at};
+// as short as it can be. One that cannot be read has no bytes, and those after it have none; a
+// histogram that was read has none such.
+ghost use Rattle.std.specs.Prelude.{◌≡◌, ◌+◌, ◌≤◌, length, IfSome};
+ghost use Rattle.byte_copy.specs.Put.{put_at};
+ghost use Rattle.body_format.specs.Histograms.{item_at};
 ghost use Rattle.body_builder.specs.Laws.Putting.{Put};
 ghost use Rattle.body_builder.specs.Laws.Additions.{Sized};
-ghost use Rattle.body_copy_histogram.specs.Forms.{bytes_of, after_of, measured_of, items_from};
+ghost use Rattle.body_copy_histogram.specs.Forms.{bytes_of, measured_of, copied_of, items_from};
 
 use body_builder_histogram::buckets::{bucket_size, put_bucket};
 use body_builder_histogram::spans::{put_span_at, span_size};
-use body_format::{BucketAnswer, BucketKind, Element, SpanAnswer};
+use body_format::Element;
 use body_histogram::fields::{bucket_at, span_at};
 use wal_types::RECORD_LIMIT;
 
-// The bytes that an element takes, and the place after it in the other body.
-#[derive(Clone, Copy)]
-struct Measured {
-    pub size: usize,
-    pub next: usize,
-}
-
-// The places after an element: in the buffer, and in the other body.
-#[derive(Clone, Copy)]
-struct Copied {
-    pub place: usize,
-    pub next: usize,
-}
-
-// ---- sizes
-
-// The span at a place.
-fn span_measured(from: &[u8], at: usize) -> Measured
-    ensures { (result ≡ measured_of TheSpan at (span_at from.now at)) × (result.size ≤ 20) }
-{
-    match span_at(from, at) {
-        SpanAnswer::Found {
-            offset,
-            length,
-            next,
-        } => {
-            let size = span_size(offset, length);
-            Measured { size, next: next.0 }
-        }
-        SpanAnswer::Refused(_) => Measured { size: 0, next: at },
-    }
-}
-
-// The bucket at a place.
-fn bucket_measured(from: &[u8], kind: BucketKind, at: usize) -> Measured
-    ensures { (result ≡ measured_of (Bucket kind) at (bucket_at kind from.now at)) × (result.size ≤ 20) }
-{
-    match bucket_at(from, kind, at) {
-        BucketAnswer::Found { bits, next } => {
-            let size = bucket_size(kind, bits);
-            Measured { size, next: next.0 }
-        }
-        BucketAnswer::Refused(_) => Measured { size: 0, next: at },
-    }
-}
-
-// The element at a place.
-fn item_measured(from: &[u8], element: Element, at: usize) -> Measured
-    ensures { (result ≡ measured_of element at (item_at element from.now at)) × (result.size ≤ 20) }
+// The bytes that the element at a place takes, and the place after it in the other body.
+fn item_measured(from: &[u8], element: Element, at: usize) -> Option<(usize, usize)>
+    ensures { (result ≡ measured_of element (item_at element from.now at)) ×
+        IfSome result (λ m. m.0 ≤ 20) }
 {
     match element {
-        Element::Span => span_measured(from, at),
-        Element::Bucket(kind) => bucket_measured(from, kind, at),
+        Element::Span => {
+            let (offset, length, next) = span_at(from, at).ok()?;
+            Some((span_size(offset, length), next.0))
+        }
+        Element::Bucket(kind) => {
+            let (bits, next) = bucket_at(from, kind, at).ok()?;
+            Some((bucket_size(kind, bits), next.0))
+        }
     }
 }
 
@@ -76,73 +36,41 @@ pub(crate) fn items_size(from: &[u8], element: Element, first: usize, count: u64
     ensures { Sized result (length (items_from element count from.now first)) × (result ≤ 65537) }
 {
     let mut at = first;
-    let mut total: usize = 0;
-    let mut left = count;
-    while 0 < left {
-        let item = item_measured(from, element, at);
-        total += item.size;
+    let mut total = 0;
+    for _ in 0..count {
+        let Some((size, next)) = item_measured(from, element, at) else {
+            return total;
+        };
+        total += size;
         if RECORD_LIMIT < total {
-            return 65537;
+            return RECORD_LIMIT + 1;
         }
-        at = item.next;
-        left -= 1;
+        at = next;
     }
     total
 }
 
-// ---- writing, at a place of the buffer; where it does not fit, nothing changes
-
-// The span at a place of the other body.
-fn copy_span(from: &[u8], at: usize, buffer: &mut [u8], place: usize) -> Copied
-    ensures { (result.next ≡ after_of at (span_at from.now at))
-        × (result.place ≡ put_end buffer.old place (bytes_of TheSpan (span_at from.now at)))
-        × (buffer.new ≡ put_at buffer.old place (bytes_of TheSpan (span_at from.now at))) }
-{
-    match span_at(from, at) {
-        SpanAnswer::Found {
-            offset,
-            length,
-            next,
-        } => {
-            let end = put_span_at(buffer, place, offset, length);
-            Copied {
-                place: end,
-                next: next.0,
-            }
-        }
-        SpanAnswer::Refused(_) => Copied { place, next: at },
-    }
-}
-
-// The bucket at a place of the other body.
-fn copy_bucket(from: &[u8], kind: BucketKind, at: usize, buffer: &mut [u8], place: usize) -> Copied
-    ensures { (result.next ≡ after_of at (bucket_at kind from.now at))
-        × (result.place ≡ put_end buffer.old place (bytes_of (Bucket kind) (bucket_at kind from.now at)))
-        × (buffer.new ≡
-        put_at buffer.old place (bytes_of (Bucket kind) (bucket_at kind from.now at))) }
-{
-    match bucket_at(from, kind, at) {
-        BucketAnswer::Found { bits, next } => {
-            let end = put_bucket(buffer, kind, place, bits);
-            Copied {
-                place: end,
-                next: next.0,
-            }
-        }
-        BucketAnswer::Refused(_) => Copied { place, next: at },
-    }
-}
-
-// The element at a place of the other body.
-fn copy_item(from: &[u8], element: Element, at: usize, buffer: &mut [u8], place: usize) -> Copied
-    ensures { (result.next ≡ after_of at (item_at element from.now at))
-        × (result.place ≡ put_end buffer.old place (bytes_of element (item_at element from.now at)))
-        × (buffer.new ≡
-        put_at buffer.old place (bytes_of element (item_at element from.now at))) }
+// The element at a place of the other body, at a place of the buffer; the places after both. Where
+// it does not fit, nothing changes.
+fn copy_item(
+    from: &[u8],
+    element: Element,
+    at: usize,
+    buffer: &mut [u8],
+    place: usize,
+) -> Option<(usize, usize)>
+    ensures { (result ≡ copied_of element buffer.old place (item_at element from.now at)) ×
+        (buffer.new ≡ put_at buffer.old place (bytes_of element (item_at element from.now at))) }
 {
     match element {
-        Element::Span => copy_span(from, at, buffer, place),
-        Element::Bucket(kind) => copy_bucket(from, kind, at, buffer, place),
+        Element::Span => {
+            let (offset, length, next) = span_at(from, at).ok()?;
+            Some((put_span_at(buffer, place, offset, length), next.0))
+        }
+        Element::Bucket(kind) => {
+            let (bits, next) = bucket_at(from, kind, at).ok()?;
+            Some((put_bucket(buffer, kind, place, bits), next.0))
+        }
     }
 }
 
@@ -160,13 +88,13 @@ pub(crate) fn put_items(
         buffer.new result }
 {
     let mut place = at;
-    let mut next = first;
-    let mut left = count;
-    while 0 < left {
-        let copied = copy_item(from, element, next, buffer, place);
-        place = copied.place;
-        next = copied.next;
-        left -= 1;
+    let mut from_place = first;
+    for _ in 0..count {
+        let Some((end, after)) = copy_item(from, element, from_place, buffer, place) else {
+            return place;
+        };
+        place = end;
+        from_place = after;
     }
     place
 }

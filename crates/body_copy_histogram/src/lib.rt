@@ -1,6 +1,6 @@
-// Adding a histogram, of type 7 or 8, that is taken out of another body (FORMAT 24.3): its lists are
-// read there, element by element, once to measure them and once to write them. What the two types
-// share is here once, with the bucket kind as an argument.
+// Adding a histogram, of type 7 or 8, that is taken out of another body (FORMAT 24.3): its lists
+// are read there, element by element, once to measure them and once to write them. What the two
+// types share is here once, with the bucket kind as an argument.
 #![tactic(auto)]
 
 mod items;
@@ -14,10 +14,10 @@ ghost use Rattle.body_builder.specs.Laws.Putting.{Put};
 ghost use Rattle.body_copy_histogram.specs.Found.{entry_found, adding_found};
 ghost use Rattle.body_copy_histogram.specs.Forms.{view_bytes};
 
-use body_builder::admission::{Gate, admit};
-use body_builder::{Added, Body};
+use body_builder::Body;
+use body_builder::admission::admit;
 use body_builder_histogram::front::{front_len, put_front};
-use body_format::{BucketKind, HistogramAnswer, HistogramView};
+use body_format::{BucketKind, HistogramView};
 use body_histogram::histogram_entry;
 use lists::{lists_size, put_lists};
 use wal_types::{Offset, Refusal};
@@ -41,12 +41,12 @@ fn put_view(
 
 // The histogram of a view is added: every entry that has its tag and its bytes.
 fn add_view(
-    mut body: Body,
+    body: Body,
     buffer: &mut [u8],
     from: &[u8],
     kind: BucketKind,
     view: HistogramView,
-) -> Added
+) -> Result<Body, Refusal>
     ensures { (e : Entry) → view.tag ≡ type_byte (body_type_for e)
         → entry_bytes buffer.old body.used.0 e
         ≡ view_bytes buffer.old body.used.0 kind from.now view
@@ -55,17 +55,15 @@ fn add_view(
         add_bytes (add buffer.old body.tag body.used.0 e false) buffer.old body.used.0 e) }
 {
     let at = body.used.0;
-    let front = front_len(&*buffer, kind, at, view.id, view.time, view.numbers);
+    let front = front_len(buffer, kind, at, view.id, view.time, view.numbers);
     let lists = lists_size(from, kind, view.spans, view.buckets);
     let size = front + lists;
-    match admit(&*buffer, body.tag, at, view.tag, false, size) {
-        Gate::Open => {
-            let next = put_view(from, view, buffer, kind, at);
-            body.used.0 = next;
-            Added::Next(body)
-        }
-        Gate::Shut(why) => Added::Refused(why),
-    }
+    admit(buffer, body.tag, at, view.tag, Some(size))?;
+    let next = put_view(from, view, buffer, kind, at);
+    Ok(Body {
+        used: Offset(next),
+        ..body
+    })
 }
 
 // One histogram more: the one that is read at a place of the body `from`, as `entry_at` of
@@ -76,7 +74,7 @@ pub fn add_histogram_from(
     from: &[u8],
     kind: BucketKind,
     place: Offset,
-) -> Added
+) -> Result<Body, Refusal>
     ensures answer { result ≡ added_of body.tag
         (adding_found buffer.old body.tag body.used.0
         (entry_found (histograms kind) from.now place.0)).outcome }
@@ -84,9 +82,6 @@ pub fn add_histogram_from(
         (adding_found buffer.old body.tag body.used.0
         (entry_found (histograms kind) from.now place.0)).buffer }
 {
-    match histogram_entry(from, kind, place.0) {
-        HistogramAnswer::Found(view) => add_view(body, buffer, from, kind, view),
-        HistogramAnswer::End => Added::Refused(Refusal::BadPlace),
-        HistogramAnswer::Refused(why) => Added::Refused(why),
-    }
+    let view = histogram_entry(from, kind, place.0)?.ok_or(Refusal::BadPlace)?;
+    add_view(body, buffer, from, kind, view)
 }

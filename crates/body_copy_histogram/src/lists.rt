@@ -13,19 +13,14 @@ use body_format::{BucketKind, Element, ListView, SidesView};
 fn list_size(from: &[u8], element: Element, list: ListView) -> usize
     ensures { Sized result (length (list_from element from.now list)) × (result ≤ 70000) }
 {
-    let first = list.first;
-    let count = uvarint::uvarint_len(list.count);
-    let items = items_size(from, element, first.0, list.count);
-    count + items
+    uvarint::uvarint_len(list.count) + items_size(from, element, list.first.0, list.count)
 }
 
 // The positive list, and the negative one.
 fn sides_size(from: &[u8], element: Element, sides: SidesView) -> usize
     ensures { Sized result (length (sides_from element from.now sides)) × (result ≤ 140000) }
 {
-    let positive = list_size(from, element, sides.positive);
-    let negative = list_size(from, element, sides.negative);
-    positive + negative
+    list_size(from, element, sides.positive) + list_size(from, element, sides.negative)
 }
 
 // The spans, and the buckets.
@@ -37,9 +32,7 @@ pub(crate) fn lists_size(
 ) -> usize
     ensures { Sized result (length (lists_from kind from.now spans buckets)) × (result ≤ 280000) }
 {
-    let first = sides_size(from, Element::Span, spans);
-    let second = sides_size(from, Element::Bucket(kind), buckets);
-    first + second
+    sides_size(from, Element::Span, spans) + sides_size(from, Element::Bucket(kind), buckets)
 }
 
 // ---- writing, at a place that has room; the place after
@@ -49,9 +42,8 @@ fn put_list(from: &[u8], element: Element, list: ListView, buffer: &mut [u8], at
     requires { at + length (list_from element from.now list) ≤ length buffer.old }
     ensures { Put buffer.old at (list_from element from.now list) buffer.new result }
 {
-    let first = list.first;
     let items = uvarint::put_uvarint(buffer, at, list.count);
-    put_items(from, element, first.0, list.count, buffer, items)
+    put_items(from, element, list.first.0, list.count, buffer, items)
 }
 
 // The positive list, and then the negative one.

@@ -1,20 +1,14 @@
 -- Strings: one, two, pairs of them, and a list after its count, one step at a time.
-use mathlib.Core.Path.{◌≡◌, refl, sym, ap, ◌∙◌}
-use mathlib.Core.List.{List, ◌∷◌}
-use Prim.Native.Nat.{ℕ, suc, ◌+◌, ◌*◌, ◌-◌, ◌≤◌, ◌<◌}
-use native.Mathlib.Omega.{arith}
-use native.Mathlib.Nat.{add-zero}
-use lib.ListN.{length, drop, length-drop}
-use lib.Seq.{length-take-le}
+use Rattle.std.proofs.Common.{◌≡◌, refl, List, ◌∷◌, ℕ, suc, ◌+◌, ◌*◌, ◌-◌, ◌≤◌, ◌<◌, length, drop, sym, ap, ◌∙◌, arith, add-zero, length-drop, length-take-le}
 use Rattle.wal_types.specs.declared.Refusal.{Refusal}
 use Rattle.body_format.specs.Fields.{Field, got, fault, and_then, StringField, uvarint_at, string_at, strings_at, string_list_at}
 use Rattle.body_format.proofs.Laws.Fields.{string-got}
 use Rattle.body_format.proofs.Laws.Bounds.{of_got, uvarint_ahead, strings_ahead}
-use Rattle.body_fields.specs.declared.StringRead.TheVariants as string
-use Rattle.body_fields.specs.declared.StringListRead.{StringListRead}
-use Rattle.body_fields.specs.declared.StringListRead.TheVariants as list
-use Rattle.body_fields.specs.declared.Place.{Place}
-use Rattle.body_fields.specs.declared.Place.TheVariants.{At, Fault}
+use Rattle.body_fields.specs.Results.StringRead as string
+use Rattle.body_fields.specs.Results.StringListRead.{StringListRead}
+use Rattle.body_fields.specs.Results.StringListRead as list
+use Rattle.body_fields.specs.Results.Place.{Place}
+use Rattle.body_fields.specs.Results.Place.{At, Fault}
 use Rattle.body_fields.specs.Readings.{string_read, string_list_read}
 use Rattle.body_fields.specs.Ends.{end_of}
 use Rattle.body_fields.specs.Tally.{tally}

@@ -5,8 +5,8 @@ use Rattle.std.proofs.Common.{sym, ap, ◌∙◌}
 use Rattle.body_format.specs.Fields.{Field, got, fault, and_then, uvarint_at}
 use Rattle.body_format.specs.Heads.{delta_at}
 use Rattle.body_format.proofs.Laws.Heads.{delta_uvarint}
-use Rattle.body_fields.specs.declared.Place.{Place}
-use Rattle.body_fields.specs.declared.Place.TheVariants.{At, Fault}
+use Rattle.body_fields.specs.Results.Place.{Place}
+use Rattle.body_fields.specs.Results.Place.{At, Fault}
 use Rattle.body_fields.specs.Ends.{end_of, onward}
 
 -- a field, and then what ends where h says

@@ -2,8 +2,8 @@
 -- To be believed. Assumes nothing.
 use Rattle.std.specs.Prelude.{ℕ}
 use Rattle.body_format.specs.Fields.{Field, got, fault}
-use Rattle.body_fields.specs.declared.Place.{Place}
-use Rattle.body_fields.specs.declared.Place.TheVariants.{At, Fault}
+use Rattle.body_fields.specs.Results.Place.{Place}
+use Rattle.body_fields.specs.Results.Place.{At, Fault}
 
 -- the place after a field or an entry, or the fault in it
 abbrev pub end_of : {A : Type 0} → Field A → Place

@@ -1,3 +1,4 @@
+pub mod Results
 pub mod Readings
 pub mod Ends
 pub mod Tally

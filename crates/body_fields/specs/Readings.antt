@@ -3,14 +3,14 @@
 -- To be believed. Assumes nothing.
 use Rattle.std.specs.Prelude.{ℤ, length, ℕ}
 use Rattle.body_format.specs.Fields.{Field, got, fault, StringField, StringList}
-use Rattle.body_fields.specs.declared.NumberRead.{NumberRead}
-use Rattle.body_fields.specs.declared.NumberRead.TheVariants as number
-use Rattle.body_fields.specs.declared.SignedRead.{SignedRead}
-use Rattle.body_fields.specs.declared.SignedRead.TheVariants as signed
-use Rattle.body_fields.specs.declared.StringRead.{StringRead}
-use Rattle.body_fields.specs.declared.StringRead.TheVariants as string
-use Rattle.body_fields.specs.declared.StringListRead.{StringListRead}
-use Rattle.body_fields.specs.declared.StringListRead.TheVariants as list
+use Rattle.body_fields.specs.Results.NumberRead.{NumberRead}
+use Rattle.body_fields.specs.Results.NumberRead as number
+use Rattle.body_fields.specs.Results.SignedRead.{SignedRead}
+use Rattle.body_fields.specs.Results.SignedRead as signed
+use Rattle.body_fields.specs.Results.StringRead.{StringRead}
+use Rattle.body_fields.specs.Results.StringRead as string
+use Rattle.body_fields.specs.Results.StringListRead.{StringListRead}
+use Rattle.body_fields.specs.Results.StringListRead as list
 
 abbrev pub number_read : Field ℕ → NumberRead
 number_read (got n next) = number.Got n next

@@ -2,8 +2,8 @@
 -- Assumes nothing.
 use Rattle.std.specs.Prelude.{List, ℕ, ◌+◌, length}
 use Rattle.body_format.specs.Fields.{Field, got, fault}
-use Rattle.body_fields.specs.declared.StringListRead.{StringListRead}
-use Rattle.body_fields.specs.declared.StringListRead.TheVariants as list
+use Rattle.body_fields.specs.Results.StringListRead.{StringListRead}
+use Rattle.body_fields.specs.Results.StringListRead as list
 
 -- strings in a row, after `count` others of a list whose first begins at `first`
 abbrev pub tally : ℕ → ℕ → Field (List (List ℕ)) → StringListRead

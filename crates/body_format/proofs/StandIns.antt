@@ -1,8 +1,7 @@
 -- Stand-ins that do not keep demand 2: an invented count, a reader that ends at once, and builders
 -- that always say NoRoom, that write nothing, or whose bytes read back but are not the format's.
 -- Assumes nothing.
-use Rattle.std.specs.Prelude.{◌≡◌, refl, false, cond, List, [], ◌∷◌, ◌++◌, ℕ, suc, eqb, ℤ, pos, negsuc, length, take, replicate, get_or}
-use Rattle.std.proofs.Common.{sym, ap, ◌∙◌, arith}
+use Rattle.std.proofs.Common.{◌≡◌, refl, false, cond, List, [], ◌∷◌, ◌++◌, ℕ, suc, eqb, ℤ, pos, negsuc, length, take, replicate, get_or, sym, ap, ◌∙◌, arith}
 use Rattle.std.proofs.lemmas.List.Edits.{sets}
 use Rattle.uvarint.specs.Uvarint.{groups, uvarint, after, read_groups, read_uvarint}
 use Rattle.varint.specs.Varint.{zigzag, unzigzag, varint, signed, read_varint}
@@ -10,9 +9,9 @@ use Rattle.big_endian.specs.Fixed.{be4, be8, read_be4, read_be8}
 use Rattle.wal_types.specs.declared.Refusal.TheVariants.{NoRoom, Short}
 use Rattle.wal_types.specs.Terms.{offset}
 use Rattle.wal_types.specs.Deltas.{to_bits, int_from_bits, plus, minus}
-use Rattle.body_format.specs.declared.CheckAnswer.{CheckAnswer}
-use Rattle.body_format.specs.declared.CheckAnswer.TheVariants.{Entries, Refused}
-use Rattle.body_format.specs.declared.EntryAnswer.TheVariants.{End}
+use Rattle.body_format.specs.Results.CheckAnswer.{CheckAnswer}
+use Rattle.body_format.specs.Results.CheckAnswer.{Entries, Refused}
+use Rattle.body_format.specs.Results.EntryAnswer.{End}
 use Rattle.body_format.specs.Fields.{got, fixed_at, varint_at}
 use Rattle.body_format.specs.Entries.{tombstones, body_type_of, Entry, sample_entry, tombstone_entry, row_at, sample_at, tombstone_at, entries_from, entries}
 use Rattle.body_format.specs.Reading.{check_body, place_or_end, bad_place, entry_place, read_entry}

@@ -1,7 +1,6 @@
 -- The format's own calls keep what Claims demands.
 -- Assumes nothing.
-use Rattle.std.specs.Prelude.{refl, List, [], ℕ, ◌+◌, ◌≤◌, length}
-use Rattle.std.proofs.Common.{ap, arith}
+use Rattle.std.proofs.Common.{refl, List, [], ℕ, ◌+◌, ◌≤◌, length, ap, arith}
 use Rattle.std.proofs.Math.Seq.{length-sets}
 use Rattle.body_format.specs.Building.{entry_bytes, start, start_bytes, add_bytes}
 use Rattle.body_format.specs.Calls.{entry_for, list_is_bad, body_calls}

@@ -3,19 +3,19 @@
 -- To be believed. Assumes nothing.
 use Rattle.std.specs.Prelude.{◌≡◌, Bool, false, ◌||◌, List, [], ◌∷◌, ℕ, ◌+◌, ℤ, length, take, drop}
 use Rattle.wal_types.specs.Terms.{offset}
-use Rattle.body_format.specs.declared.CheckAnswer.{CheckAnswer}
-use Rattle.body_format.specs.declared.EntryAnswer.{EntryAnswer}
-use Rattle.body_format.specs.declared.EntryAnswer.TheVariants.{Found as EntryFound, End}
-use Rattle.body_format.specs.declared.StringAnswer.{StringAnswer}
-use Rattle.body_format.specs.declared.StringAnswer.TheVariants.{Found as StringFound}
+use Rattle.body_format.specs.Results.CheckAnswer.{CheckAnswer}
+use Rattle.body_format.specs.Results.EntryAnswer.{EntryAnswer}
+use Rattle.body_format.specs.Results.EntryAnswer.{Found as EntryFound, End}
+use Rattle.body_format.specs.Results.StringAnswer.{StringAnswer}
+use Rattle.body_format.specs.Results.StringAnswer.{Found as StringFound}
 use Rattle.body_format.specs.declared.BucketKind.{BucketKind}
 use Rattle.body_format.specs.declared.Numbers.{Numbers}
-use Rattle.body_format.specs.declared.HistogramAnswer.{HistogramAnswer}
-use Rattle.body_format.specs.declared.HistogramAnswer.TheVariants as histogram
-use Rattle.body_format.specs.declared.SpanAnswer.{SpanAnswer}
-use Rattle.body_format.specs.declared.SpanAnswer.TheVariants as span
-use Rattle.body_format.specs.declared.BucketAnswer.{BucketAnswer}
-use Rattle.body_format.specs.declared.BucketAnswer.TheVariants as bucket
+use Rattle.body_format.specs.Results.HistogramAnswer.{HistogramAnswer}
+use Rattle.body_format.specs.Results.HistogramAnswer as histogram
+use Rattle.body_format.specs.Results.SpanAnswer.{SpanAnswer}
+use Rattle.body_format.specs.Results.SpanAnswer as span
+use Rattle.body_format.specs.Results.BucketAnswer.{BucketAnswer}
+use Rattle.body_format.specs.Results.BucketAnswer as bucket
 use Rattle.body_format.specs.Heads.{Head}
 use Rattle.body_format.specs.Histograms.{Span, Lists, map_lists, LentSpans, spans_of, bad_spans}
 use Rattle.body_format.specs.Entries.{Entry, series_entry, sample_entry, tombstone_entry, exemplar_entry, metadata_entry, histogram_entry}

@@ -4,7 +4,7 @@
 use Rattle.std.specs.Prelude.{◌≡◌, List, [], ◌∷◌, ℕ, ◌^◌, ◌≤◌, ◌<◌, length, take, drop}
 use Rattle.std.specs.Int.Signed.{mag}
 use Rattle.wal_types.specs.declared.Refusal.{Refusal}
-use Rattle.body_format.specs.declared.CheckAnswer.TheVariants.{Entries}
+use Rattle.body_format.specs.Results.CheckAnswer.{Entries}
 use Rattle.body_format.specs.declared.Numbers.{Numbers}
 use Rattle.body_format.specs.declared.Element.{Element}
 use Rattle.body_format.specs.declared.Element.TheVariants as element

@@ -5,10 +5,10 @@ use Rattle.std.specs.Prelude.{cond, List, [], ◌∷◌, ℕ, zero, suc, ◌+◌
 use Rattle.wal_types.specs.declared.Refusal.{Refusal}
 use Rattle.wal_types.specs.declared.Refusal.TheVariants.{Short, BadVarint}
 use Rattle.wal_types.specs.Terms.{offset}
-use Rattle.uvarint.specs.declared.UvarintRead.{UvarintRead}
-use Rattle.uvarint.specs.declared.UvarintRead.TheVariants as u
-use Rattle.varint.specs.declared.VarintRead.{VarintRead}
-use Rattle.varint.specs.declared.VarintRead.TheVariants as v
+use Rattle.uvarint.specs.Results.UvarintRead.{UvarintRead}
+use Rattle.uvarint.specs.Results.UvarintRead as u
+use Rattle.varint.specs.Results.VarintRead.{VarintRead}
+use Rattle.varint.specs.Results.VarintRead as v
 use Rattle.uvarint.specs.Uvarint.{read_uvarint}
 use Rattle.varint.specs.Varint.{read_varint}
 use Rattle.big_endian.specs.Fixed.{read_be8}

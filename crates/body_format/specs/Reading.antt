@@ -6,25 +6,25 @@ use Rattle.std.specs.Prelude.{Bool, cond, ◌||◌, ◌&&◌, List, [], ◌∷�
 use Rattle.wal_types.specs.declared.Refusal.{Refusal}
 use Rattle.wal_types.specs.declared.Refusal.TheVariants.{BadPlace, UnknownType, EmptyBody, WrongKind}
 use Rattle.wal_types.specs.Terms.{offset, series_id, timestamp}
-use Rattle.body_format.specs.declared.CheckAnswer.{CheckAnswer}
-use Rattle.body_format.specs.declared.CheckAnswer.TheVariants.{Entries, Refused as CheckRefused}
-use Rattle.body_format.specs.declared.EntryPlace.{EntryPlace}
-use Rattle.body_format.specs.declared.EntryPlace.TheVariants as place
+use Rattle.body_format.specs.Results.CheckAnswer.{CheckAnswer}
+use Rattle.body_format.specs.Results.CheckAnswer.{Entries, Refused as CheckRefused}
+use Rattle.body_format.specs.Results.EntryPlace.{EntryPlace}
+use Rattle.body_format.specs.Results.EntryPlace as place
 use Rattle.body_format.specs.declared.EntryView.{EntryView}
-use Rattle.body_format.specs.declared.EntryAnswer.{EntryAnswer}
-use Rattle.body_format.specs.declared.EntryAnswer.TheVariants.{Found as EntryFound, End, Refused as EntryRefused}
-use Rattle.body_format.specs.declared.StringAnswer.{StringAnswer}
-use Rattle.body_format.specs.declared.StringAnswer.TheVariants.{Found as StringFound, Refused as StringRefused}
+use Rattle.body_format.specs.Results.EntryAnswer.{EntryAnswer}
+use Rattle.body_format.specs.Results.EntryAnswer.{Found as EntryFound, End, Refused as EntryRefused}
+use Rattle.body_format.specs.Results.StringAnswer.{StringAnswer}
+use Rattle.body_format.specs.Results.StringAnswer.{Found as StringFound, Refused as StringRefused}
 use Rattle.body_format.specs.declared.BucketKind.{BucketKind}
 use Rattle.body_format.specs.declared.ListView.{ListView}
 use Rattle.body_format.specs.declared.SidesView.{SidesView}
 use Rattle.body_format.specs.declared.HistogramView.{HistogramView}
-use Rattle.body_format.specs.declared.HistogramAnswer.{HistogramAnswer}
-use Rattle.body_format.specs.declared.HistogramAnswer.TheVariants as histogram
-use Rattle.body_format.specs.declared.SpanAnswer.{SpanAnswer}
-use Rattle.body_format.specs.declared.SpanAnswer.TheVariants as span
-use Rattle.body_format.specs.declared.BucketAnswer.{BucketAnswer}
-use Rattle.body_format.specs.declared.BucketAnswer.TheVariants as bucket
+use Rattle.body_format.specs.Results.HistogramAnswer.{HistogramAnswer}
+use Rattle.body_format.specs.Results.HistogramAnswer as histogram
+use Rattle.body_format.specs.Results.SpanAnswer.{SpanAnswer}
+use Rattle.body_format.specs.Results.SpanAnswer as span
+use Rattle.body_format.specs.Results.BucketAnswer.{BucketAnswer}
+use Rattle.body_format.specs.Results.BucketAnswer as bucket
 use Rattle.body_format.specs.Fields.{Field, got, fault, StringField, string_at}
 use Rattle.body_format.specs.Histograms.{Span, span_at, bucket_at, Listed, Sides, Lists, Histogram, histogram_at, bare, firsts}
 use Rattle.body_format.specs.Entries.{BodyType, series, samples, tombstones, exemplars, metadata, histograms, type_byte, Known, known, unknown, body_type_of, has_rows, Entry, series_entry, sample_entry, tombstone_entry, exemplar_entry, metadata_entry, histogram_entry, Placed, entry_at, first_at, entries}

@@ -5,7 +5,8 @@
 use wal_types::{Offset, Refusal, SeriesId, Timestamp};
 
 // The tags (FORMAT 9.1): a body's first byte says its type. `type_byte` of specs/Entries.antt has
-// the same numbers.
+// the same numbers. A view's tag is such a number and no enum: the definition `view` and the C
+// calls report the byte.
 pub const SERIES: u8 = 1;
 
 pub const SAMPLES: u8 = 2;
@@ -19,21 +20,6 @@ pub const METADATA: u8 = 6;
 pub const HISTOGRAMS: u8 = 7;
 
 pub const FLOAT_HISTOGRAMS: u8 = 8;
-
-// What checking a body answers: its number of entries, or the refusal.
-#[derive(Clone, Copy)]
-pub enum CheckAnswer {
-    Entries(usize),
-    Refused(Refusal),
-}
-
-// Where the entry of a place is: there, the plain end of the body, or the refusal (FORMAT 11.3).
-#[derive(Clone, Copy)]
-pub enum EntryPlace {
-    At(Offset),
-    End,
-    Refused(Refusal),
-}
 
 // An entry as it is read at a place of a body (FORMAT 11.3). A number that the type lacks is 0, and
 // the strings of an entry without any begin at the place after it.
@@ -51,21 +37,6 @@ pub struct EntryView {
     pub strings: usize,
     pub first: Offset,
     pub next: Offset,
-}
-
-// What reading an entry answers: the entry, the plain end of the body, or the refusal.
-#[derive(Clone, Copy)]
-pub enum EntryAnswer {
-    Found(EntryView),
-    End,
-    Refused(Refusal),
-}
-
-// What reading a string answers: where its bytes start and how many they are, or the refusal.
-#[derive(Clone, Copy)]
-pub enum StringAnswer {
-    Found { start: Offset, length: usize },
-    Refused(Refusal),
 }
 
 // ---- histograms
@@ -121,30 +92,4 @@ pub struct HistogramView {
     pub spans: SidesView,
     pub buckets: SidesView,
     pub next: Offset,
-}
-
-// What reading a histogram answers: the histogram, the plain end of the body, or the refusal.
-#[derive(Clone, Copy)]
-pub enum HistogramAnswer {
-    Found(HistogramView),
-    End,
-    Refused(Refusal),
-}
-
-// What reading a span answers: its offset and length and the place after it, or the refusal.
-#[derive(Clone, Copy)]
-pub enum SpanAnswer {
-    Found {
-        offset: i32,
-        length: u32,
-        next: Offset,
-    },
-    Refused(Refusal),
-}
-
-// What reading a bucket answers: its 64 bits and the place after it, or the refusal.
-#[derive(Clone, Copy)]
-pub enum BucketAnswer {
-    Found { bits: u64, next: Offset },
-    Refused(Refusal),
 }

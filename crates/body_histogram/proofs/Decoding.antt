@@ -1,13 +1,8 @@
 -- The fields of a histogram, case by case, in the code's forms.
-use mathlib.Core.Path.{◌≡◌, refl, sym, ap}
-use mathlib.Core.Bool.{Bool, true, false, cond}
-use mathlib.Core.List.{List}
-use Prim.Native.Nat.{ℕ, ◌/◌, ◌%◌, ◌^◌, ◌≤◌, ◌<◌}
-use native.Mathlib.Omega.{arith}
-use borrow.Author.Tests.{ltb-true, lt-ltb, le-ltb}
-use lib.Dec.{ltb, eqb}
-use lib.IntN.{ℤ}
-use lib.Signed.{mag}
+use Rattle.std.specs.Prelude.{◌≡◌, refl, Bool, true, false, cond, List, ℕ, ◌/◌, ◌%◌, ◌^◌, ◌≤◌, ◌<◌, ℤ, ltb, eqb}
+use Rattle.std.specs.Int.Signed.{mag}
+use Rattle.std.proofs.Common.{sym, ap, ◌∙◌, arith, ltb-true, lt-ltb, le-ltb}
+use Rattle.std.proofs.lemmas.Bool.{ltb-false}
 use Rattle.wal_types.specs.declared.Refusal.{Refusal}
 use Rattle.wal_types.specs.declared.Refusal.TheVariants.{BadRange}
 use Rattle.wal_types.specs.Terms.{offset}
@@ -15,17 +10,18 @@ use Rattle.wal_types.specs.Deltas.{to_bits}
 use Rattle.varint.specs.Varint.{unzigzag}
 use Rattle.body_format.specs.declared.BucketKind.{BucketKind}
 use Rattle.body_format.specs.declared.BucketKind.TheVariants.{Whole, Float}
-use Rattle.body_format.specs.declared.SpanAnswer.TheVariants as span
-use Rattle.body_format.specs.declared.BucketAnswer.TheVariants as bucket
+use Rattle.body_format.specs.Results.SpanAnswer as span
+use Rattle.body_format.specs.Results.BucketAnswer as bucket
 use Rattle.body_format.specs.Fields.{Field, got, fault, and_then, fixed_at, uvarint_at, varint_at}
-use Rattle.body_format.specs.Heads.{delta_at}
 use Rattle.body_format.specs.Histograms.{int32_at, uint32_at, count_at, bucket_at, span_at}
 use Rattle.body_format.specs.Reading.{answer_span, answer_bucket}
-use Rattle.body_format.proofs.Laws.Heads.{varint-uvarint, delta_got, delta_fault}
+use Rattle.body_format.proofs.Laws.Heads.{varint-uvarint, delta_uvarint}
 use Rattle.body_fields.specs.Readings.{number_read}
+use Rattle.body_fields.specs.Ends.{end_of}
 use Rattle.body_fields.specs.Laws.{never}
-use Rattle.body_histogram.specs.declared.fields.Int32Read.{Int32Read}
-use Rattle.body_histogram.specs.declared.fields.Int32Read.TheVariants as int
+use Rattle.body_fields.specs.EndLaws.{end-one}
+use Rattle.body_histogram.specs.Results.Int32Read.{Int32Read}
+use Rattle.body_histogram.specs.Results.Int32Read as int
 use Rattle.body_histogram.specs.Forms.{int32_read}
 
 -- ---- numbers of 32 bits
@@ -39,18 +35,34 @@ half n = go (eqb (n % 2) 0) refl
     go true e = rw (e, unzigzag)
     go false e = rw (e, unzigzag)
 
+-- a bucket of type 7 is a delta, by its zigzag
+abbrev pub bucket_of : BucketKind → ℕ → ℕ
+bucket_of Whole n = to_bits (unzigzag n)
+bucket_of Float n = n
+
+-- a signed number has 32 bits exactly if its zigzag has
+in_32 : (n q p : ℕ) (t : Bool) → ltb n (2 ^ 32) ≡ t
+    → cond (ltb (mag (unzigzag n)) (2 ^ 31)) (got (unzigzag n) q) (fault (BadRange (offset p)))
+    ≡ and_then (cond t (got n q) (fault (BadRange (offset p)))) (λ m r. got (unzigzag m) r)
+in_32 n q p true e = rw (lt-ltb (mag (unzigzag n)) (2 ^ 31) (omega (arith, half n, ltb-true n (2 ^ 32) e)))
+in_32 n q p false e = rw (le-ltb (mag (unzigzag n)) (2 ^ 31) (omega (arith, half n, ltb-false n (2 ^ 32) e)))
+
 module _ (s : List ℕ) (p : ℕ) where
-  pub int32_got : {n q : ℕ} → uvarint_at s p ≡ got n q → n ≤ 4294967295 → int32_at s p ≡ got (unzigzag n) q
-  unfolding int32_at
-  int32_got {n} {q} h l = rw (varint-uvarint s p, h, lt-ltb (mag (unzigzag n)) (2 ^ 31) (omega (arith, half n)))
+  int32_zigzag : int32_at s p ≡ and_then (uint32_at s p) (λ n q. got (unzigzag n) q)
+  unfolding int32_at uint32_at
+  int32_zigzag = rw (varint-uvarint s p) (go (uvarint_at s p))
+    where
+      go : (f : Field ℕ)
+          → and_then (and_then f (λ n q. got (unzigzag n) q)) (λ x q. cond (ltb (mag x) (2 ^ 31)) (got x q) (fault (BadRange (offset p))))
+          ≡ and_then (and_then f (λ n q. cond (ltb n (2 ^ 32)) (got n q) (fault (BadRange (offset p))))) (λ n q. got (unzigzag n) q)
+      go (got n q) = in_32 n q p (ltb n (2 ^ 32)) refl
+      go (fault why) = refl
 
-  pub int32_bad : {n q : ℕ} → uvarint_at s p ≡ got n q → 4294967295 < n → int32_at s p ≡ fault (BadRange (offset p))
-  unfolding int32_at
-  int32_bad {n} {q} h l = rw (varint-uvarint s p, h, le-ltb (mag (unzigzag n)) (2 ^ 31) (omega (arith, half n)))
+  pub int32_got : {n q : ℕ} → uint32_at s p ≡ got n q → int32_at s p ≡ got (unzigzag n) q
+  int32_got e = int32_zigzag ∙ rw e
 
-  pub int32_fault : {why : Refusal} → uvarint_at s p ≡ fault why → int32_at s p ≡ fault why
-  unfolding int32_at
-  int32_fault h = rw (varint-uvarint s p, h)
+  pub int32_fault : {why : Refusal} → uint32_at s p ≡ fault why → int32_at s p ≡ fault why
+  int32_fault e = int32_zigzag ∙ rw e
 
   pub uint32_got : {n q : ℕ} → uvarint_at s p ≡ got n q → n ≤ 4294967295 → uint32_at s p ≡ got n q
   unfolding uint32_at
@@ -77,18 +89,6 @@ module _ (s : List ℕ) (p : ℕ) where
       go (got y r) k = one y r (ltb (mag y) (2 ^ 31)) refl k
       go (fault why) k = never cc
 
-  pub uint32_fits : {n q : ℕ} → uint32_at s p ≡ got n q → n < 2 ^ 32
-  unfolding uint32_at
-  uint32_fits {n} {q} e = go (uvarint_at s p) e
-    where
-      one : (m r : ℕ) (t : Bool) → ltb m (2 ^ 32) ≡ t → cond t (got m r) (fault (BadRange (offset p))) ≡ got n q → n < 2 ^ 32
-      one m r true h k = let z : m ≡ n = cc in rw (← z) (ltb-true m (2 ^ 32) h)
-      one m r false h k = never cc
-
-      go : (f : Field ℕ) → and_then f (λ m r. cond (ltb m (2 ^ 32)) (got m r) (fault (BadRange (offset p)))) ≡ got n q → n < 2 ^ 32
-      go (got m r) k = one m r (ltb m (2 ^ 32)) refl k
-      go (fault why) k = never cc
-
   -- ---- by the bucket kind
 
   pub count-whole : (k : BucketKind) → k ≡ Whole → number_read (uvarint_at s p) ≡ number_read (count_at k s p)
@@ -99,25 +99,26 @@ module _ (s : List ℕ) (p : ℕ) where
   unfolding count_at
   count_float k e = rw e
 
-  pub bucket-whole : (k : BucketKind) → k ≡ Whole → delta_at s p ≡ bucket_at k s p
-  unfolding bucket_at
-  bucket-whole k e = rw e
+  -- a bucket is a count, read as the kind has it
+  bucket_counted : (k : BucketKind) → bucket_at k s p ≡ and_then (count_at k s p) (λ n q. got (bucket_of k n) q)
+  unfolding bucket_at count_at
+  bucket_counted Whole = delta_uvarint s p
+  bucket_counted Float = go (fixed_at s p)
+    where
+      go : (f : Field ℕ) → f ≡ and_then f (λ n q. got n q)
+      go (got n q) = refl
+      go (fault why) = refl
 
-  pub bucket_float : (k : BucketKind) → k ≡ Float → fixed_at s p ≡ bucket_at k s p
-  unfolding bucket_at
-  bucket_float k e = rw e
+  pub bucket_got : (k : BucketKind) {n q : ℕ} → count_at k s p ≡ got n q
+      → bucket.Found (bucket_of k n) (offset q) ≡ answer_bucket (bucket_at k s p)
+  bucket_got k e = rw (bucket_counted k, e)
 
-  pub whole-got : {n q : ℕ} → uvarint_at s p ≡ got n q → bucket.Found (to_bits (unzigzag n)) (offset q) ≡ answer_bucket (delta_at s p)
-  whole-got h = sym (ap answer_bucket (delta_got s p _ _ h))
+  pub bucket_fault : (k : BucketKind) {why : Refusal} → count_at k s p ≡ fault why
+      → bucket.Refused why ≡ answer_bucket (bucket_at k s p)
+  bucket_fault k e = rw (bucket_counted k, e)
 
-  pub whole-fault : {why : Refusal} → uvarint_at s p ≡ fault why → bucket.Refused why ≡ answer_bucket (delta_at s p)
-  whole-fault h = sym (ap answer_bucket (delta_fault s p _ h))
-
-  pub float_got : {v q : ℕ} → fixed_at s p ≡ got v q → bucket.Found v (offset q) ≡ answer_bucket (fixed_at s p)
-  float_got h = rw h
-
-  pub float_fault : {why : Refusal} → fixed_at s p ≡ fault why → bucket.Refused why ≡ answer_bucket (fixed_at s p)
-  float_fault h = rw h
+  pub bucket_ends : (k : BucketKind) → end_of (count_at k s p) ≡ end_of (bucket_at k s p)
+  bucket_ends k = sym (ap end_of (bucket_counted k) ∙ end-one (count_at k s p) (λ n q. bucket_of k n))
 
   -- ---- a span
 
@@ -136,7 +137,7 @@ module _ (s : List ℕ) (p : ℕ) where
 -- ---- what an answer says of the reading
 
 pub int_got : (f : Field ℤ) (r : Int32Read) {x : ℤ} {q : ℕ} → r ≡ int32_read f → r ≡ int.Got x q → f ≡ got x q
-int_got (got m p) r e g = cc
+int_got (got m p) r {x} {q} e g = let v : ◌≡◌ {A = ℤ × ℕ} (m, p) (x, q) = cc in ap (λ (w : ℤ × ℕ). got w.0 w.1) v
 int_got (fault w) r e g = never cc
 
 pub int_fault : (f : Field ℤ) (r : Int32Read) {why : Refusal} → r ≡ int32_read f → r ≡ int.Fault why → f ≡ fault why

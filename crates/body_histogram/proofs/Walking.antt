@@ -1,53 +1,42 @@
 -- The lists of a histogram one element at a time, in the code's forms.
-use mathlib.Core.Path.{◌≡◌, refl, sym, ◌∙◌}
-use mathlib.Core.List.{List, ◌∷◌}
-use Prim.Native.Nat.{ℕ, zero, suc, ◌-◌, ◌<◌}
-use native.Mathlib.Omega.{arith}
-use lib.IntN.{ℤ}
-use lib.ListN.{length}
+use Rattle.std.specs.Prelude.{◌≡◌, refl, List, ◌∷◌, ℕ, zero, suc, ◌-◌, ◌<◌, ℤ, length}
+use Rattle.std.proofs.Common.{sym, ap, ◌∙◌, arith}
 use Rattle.wal_types.specs.declared.Refusal.{Refusal}
 use Rattle.wal_types.specs.declared.Offset.{Offset}
 use Rattle.wal_types.specs.Terms.{offset}
 use Rattle.body_format.specs.declared.BucketKind.{BucketKind}
-use Rattle.body_format.specs.declared.BucketKind.TheVariants.{Whole, Float}
 use Rattle.body_format.specs.declared.Element.{Element}
 use Rattle.body_format.specs.declared.Element.TheVariants as element
 use Rattle.body_format.specs.declared.ListView.{ListView}
 use Rattle.body_format.specs.declared.SidesView.{SidesView}
-use Rattle.body_format.specs.declared.SpanAnswer.{SpanAnswer}
-use Rattle.body_format.specs.declared.SpanAnswer.TheVariants as span
-use Rattle.body_format.specs.Fields.{Field, got, fault, and_then, uvarint_at, fixed_at}
+use Rattle.body_format.specs.Results.SpanAnswer.{SpanAnswer}
+use Rattle.body_format.specs.Results.SpanAnswer as span
+use Rattle.body_format.specs.Fields.{Field, got, fault, and_then, uvarint_at}
 use Rattle.body_format.specs.Histograms.{bucket_at, Span, span_at, Item, item_at, items_at, Listed, list_at, Sides, sides_at, lists_at}
 use Rattle.body_format.specs.Reading.{list_view, answer_span}
 use Rattle.body_format.proofs.Laws.Histograms.{items-counted}
-use Rattle.body_fields.specs.declared.Place.{Place}
-use Rattle.body_fields.specs.declared.Place.TheVariants.{At, Fault}
+use Rattle.body_fields.specs.Results.Place.{Place}
+use Rattle.body_fields.specs.Results.Place.{At, Fault}
 use Rattle.body_fields.specs.Ends.{end_of, onward}
 use Rattle.body_fields.specs.Laws.{never}
-use Rattle.body_fields.specs.EndLaws.{end-one, delta_end}
-use Rattle.body_histogram.specs.declared.lists.ListRead.{ListRead}
-use Rattle.body_histogram.specs.declared.lists.ListRead.TheVariants as list
-use Rattle.body_histogram.specs.declared.lists.SidesRead.{SidesRead}
-use Rattle.body_histogram.specs.declared.lists.SidesRead.TheVariants as sides
-use Rattle.body_histogram.specs.declared.lists.ListsRead.TheVariants as lists
+use Rattle.body_fields.specs.EndLaws.{end-one}
+use Rattle.body_histogram.specs.Results.ListRead.{ListRead}
+use Rattle.body_histogram.specs.Results.ListRead as list
+use Rattle.body_histogram.specs.Results.SidesRead.{SidesRead}
+use Rattle.body_histogram.specs.Results.SidesRead as sides
+use Rattle.body_histogram.specs.Results.ListsRead as lists
 use Rattle.body_histogram.specs.Forms.{list_read, viewed, sides_read, lists_read}
 
 -- ---- where an element ends
 
 module _ (s : List ℕ) (p : ℕ) where
-  pub bucket-end-whole : (k : BucketKind) → k ≡ Whole → end_of (uvarint_at s p) ≡ end_of (bucket_at k s p)
-  unfolding bucket_at
-  bucket-end-whole k e = rw e (delta_end s p)
-
-  pub bucket-end_float : (k : BucketKind) → k ≡ Float → end_of (fixed_at s p) ≡ end_of (bucket_at k s p)
-  unfolding bucket_at
-  bucket-end_float k e = rw e
-
   pub span-ends : {r : SpanAnswer} {g : ℤ} {n : ℕ} {q : Offset} → r ≡ answer_span (span_at s p) → r ≡ span.Found g n q → At q.0 ≡ end_of (span_at s p)
   span-ends {r} {g} {n} {q} e h = go (span_at s p) e
     where
       go : (f : Field Span) → r ≡ answer_span f → At q.0 ≡ end_of f
-      go (got a t) i = let z : q ≡ offset t = cc in rw z
+      go (got a t) i =
+          let v : ◌≡◌ {A = ℤ × ℕ × Offset} (g, n, q) (a.gap, a.size, offset t) = cc in
+          ap (λ (w : ℤ × ℕ × Offset). At w.2.0) v
       go (fault w) i = never cc
 
   pub span_stops : {r : SpanAnswer} {why : Refusal} → r ≡ answer_span (span_at s p) → r ≡ span.Refused why → Fault why ≡ end_of (span_at s p)
@@ -123,7 +112,9 @@ module _ (x : Element) (s : List ℕ) where
 -- what an answer says of the reading
 pub list-got : {A : Type 0} (f : Field (Listed A)) (r : ListRead) {v : ListView} {q : ℕ} → r ≡ list_read f → r ≡ list.Got v q
     → (l : Listed A) × (f ≡ got l q) × (list_view l.items l.first ≡ v)
-list-got (got l p) r e g = (l, cc, cc)
+list-got (got l p) r {v} {q} e g =
+    let z : ◌≡◌ {A = ListView × ℕ} (list_view l.items l.first, p) (v, q) = cc in
+    (l, ap (λ (w : ListView × ℕ). got l w.1) z, ap (λ (w : ListView × ℕ). w.0) z)
 list-got (fault w) r e g = never cc
 
 pub list-fault : {A : Type 0} (f : Field (Listed A)) (r : ListRead) {why : Refusal} → r ≡ list_read f → r ≡ list.Fault why → f ≡ fault why
@@ -132,7 +123,9 @@ list-fault (fault w) r e g = cc
 
 pub sides-got : {A : Type 0} (f : Field (Sides (Listed A))) (r : SidesRead) {v : SidesView} {q : ℕ} → r ≡ sides_read f → r ≡ sides.Got v q
     → (l : Sides (Listed A)) × (f ≡ got l q) × (viewed l ≡ v)
-sides-got (got l p) r e g = (l, cc, cc)
+sides-got (got l p) r {v} {q} e g =
+    let z : ◌≡◌ {A = SidesView × ℕ} (viewed l, p) (v, q) = cc in
+    (l, ap (λ (w : SidesView × ℕ). got l w.1) z, ap (λ (w : SidesView × ℕ). w.0) z)
 sides-got (fault w) r e g = never cc
 
 pub sides-fault : {A : Type 0} (f : Field (Sides (Listed A))) (r : SidesRead) {why : Refusal} → r ≡ sides_read f → r ≡ sides.Fault why → f ≡ fault why

@@ -1,30 +1,32 @@
 -- Forms that the private functions return: a histogram's fields, numbers and lists, and a histogram
 -- as any entry is reported.
 -- Assumes nothing.
-use Rattle.std.specs.Prelude.{List, ℕ, ℤ, pos}
+use Rattle.std.specs.Prelude.{ℕ, ℤ, pos}
 use Rattle.wal_types.specs.Terms.{timestamp}
 use Rattle.body_format.specs.declared.BucketKind.{BucketKind}
 use Rattle.body_format.specs.declared.Numbers.{Numbers}
 use Rattle.body_format.specs.declared.SidesView.{SidesView}
-use Rattle.body_format.specs.declared.EntryAnswer.{EntryAnswer}
-use Rattle.body_format.specs.declared.EntryAnswer.TheVariants as entry
-use Rattle.body_format.specs.declared.HistogramAnswer.{HistogramAnswer}
-use Rattle.body_format.specs.declared.HistogramAnswer.TheVariants as histogram
-use Rattle.body_format.specs.Fields.{Field, got, fault, and_then, fixed_at}
-use Rattle.body_format.specs.Histograms.{count_at, Span, Listed, Sides, map_sides, Lists, Histogram, bare, firsts}
+use Rattle.body_format.specs.declared.HistogramView.{HistogramView}
+use Rattle.body_format.specs.declared.EntryView.{EntryView}
+use Rattle.body_format.specs.Results.EntryAnswer.{EntryAnswer}
+use Rattle.body_format.specs.Results.EntryAnswer as entry
+use Rattle.body_format.specs.Results.HistogramAnswer.{HistogramAnswer}
+use Rattle.body_format.specs.Results.HistogramAnswer as histogram
+use Rattle.body_format.specs.Fields.{Field, got, fault}
+use Rattle.body_format.specs.Histograms.{Span, Listed, Sides, map_sides, Lists, Histogram, bare, firsts}
 use Rattle.body_format.specs.Reading.{list_view, sides_view, histogram_view}
-use Rattle.body_histogram.specs.declared.fields.Int32Read.{Int32Read}
-use Rattle.body_histogram.specs.declared.fields.Int32Read.TheVariants as int
-use Rattle.body_histogram.specs.declared.lists.ListRead.{ListRead}
-use Rattle.body_histogram.specs.declared.lists.ListRead.TheVariants as list
-use Rattle.body_histogram.specs.declared.lists.SidesRead.{SidesRead}
-use Rattle.body_histogram.specs.declared.lists.SidesRead.TheVariants as sides
-use Rattle.body_histogram.specs.declared.lists.ListsRead.{ListsRead}
-use Rattle.body_histogram.specs.declared.lists.ListsRead.TheVariants as lists
-use Rattle.body_histogram.specs.declared.NumbersRead.{NumbersRead}
-use Rattle.body_histogram.specs.declared.NumbersRead.TheVariants as numbers
-use Rattle.body_histogram.specs.declared.HistogramRead.{HistogramRead}
-use Rattle.body_histogram.specs.declared.HistogramRead.TheVariants as whole
+use Rattle.body_histogram.specs.Results.Int32Read.{Int32Read}
+use Rattle.body_histogram.specs.Results.Int32Read as int
+use Rattle.body_histogram.specs.Results.ListRead.{ListRead}
+use Rattle.body_histogram.specs.Results.ListRead as list
+use Rattle.body_histogram.specs.Results.SidesRead.{SidesRead}
+use Rattle.body_histogram.specs.Results.SidesRead as sides
+use Rattle.body_histogram.specs.Results.ListsRead.{ListsRead}
+use Rattle.body_histogram.specs.Results.ListsRead as lists
+use Rattle.body_histogram.specs.Results.NumbersRead.{NumbersRead}
+use Rattle.body_histogram.specs.Results.NumbersRead as numbers
+use Rattle.body_histogram.specs.Results.HistogramRead.{HistogramRead}
+use Rattle.body_histogram.specs.Results.HistogramRead as whole
 
 abbrev pub int32_read : Field ℤ → Int32Read
 int32_read (got x next) = int.Got x next
@@ -46,14 +48,6 @@ abbrev pub lists_read : Field (Lists (Listed Span) (Listed ℕ)) → ListsRead
 lists_read (got l next) = lists.Got (viewed l.spans) (viewed l.buckets) next
 lists_read (fault why) = lists.Fault why
 
--- the numbers from the zero count on
-unfoldable pub totals_at : BucketKind → ℕ → ℤ → ℕ → List ℕ → ℕ → Field Numbers
-totals_at k hint schema threshold s p =
-    and_then (count_at k s p) (λ zeros q.
-    and_then (count_at k s q) (λ count r.
-    and_then (fixed_at s r) (λ sum t.
-    got (record { hint = hint; schema = schema; threshold = threshold; zeros = zeros; count = count; sum = sum }) t)))
-
 abbrev pub numbers_read : Field Numbers → NumbersRead
 numbers_read (got n next) = numbers.Got n next
 numbers_read (fault why) = numbers.Fault why
@@ -63,8 +57,8 @@ histogram_read k (got h next) = whole.Got (histogram_view k (bare h) (firsts h) 
 histogram_read k (fault why) = whole.Fault why
 
 -- a histogram as an entry: id, time and sum, and no strings
-abbrev pub as_entry : HistogramAnswer → EntryAnswer
-as_entry (histogram.Found v) = entry.Found (record {
+abbrev pub told : HistogramView → EntryView
+told v = record {
   tag = v.tag;
   id = v.id;
   time = v.time;
@@ -73,6 +67,9 @@ as_entry (histogram.Found v) = entry.Found (record {
   strings = 0;
   first = v.next;
   next = v.next;
-})
+}
+
+abbrev pub as_entry : HistogramAnswer → EntryAnswer
+as_entry (histogram.Found v) = entry.Found (told v)
 as_entry histogram.End = entry.End
 as_entry (histogram.Refused why) = entry.Refused why

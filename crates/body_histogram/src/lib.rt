@@ -11,98 +11,40 @@ ghost use Rattle.body_format.specs.Histograms.{numbers_at, histogram_at};
 ghost use Rattle.body_format.specs.Entries.{histograms, type_byte, known, entry_at};
 ghost use Rattle.body_format.specs.Reading.{entry_place, entry_known, histogram_there};
 ghost use Rattle.body_fields.specs.Ends.{end_of};
-ghost use Rattle.body_histogram.specs.Forms.{totals_at, numbers_read, histogram_read, as_entry};
+ghost use Rattle.body_histogram.specs.Forms.{numbers_read, histogram_read, told};
 
-use body_fields::{NumberRead, Place, fixed_at};
-use body_format::{
-    BucketKind, EntryAnswer, EntryPlace, EntryView, FLOAT_HISTOGRAMS, HISTOGRAMS, HistogramAnswer,
-    HistogramView, Numbers,
-};
-use body_rows::{HeadRead, head_at, row_entry_place};
-use fields::{Int32Read, count_at, int32_at};
-use lists::{ListsRead, lists_at};
+use body_fields::fixed_at;
+use body_format::{BucketKind, EntryView, FLOAT_HISTOGRAMS, HISTOGRAMS, HistogramView, Numbers};
+use body_rows::{head_at, row_entry_place};
+use fields::{count_at, int32_at};
+use lists::lists_at;
 use wal_types::{Offset, Refusal, Timestamp};
 
-// The numbers of a histogram and the place after them.
-#[derive(Clone, Copy)]
-enum NumbersRead {
-    Got { numbers: Numbers, next: usize },
-    Fault(Refusal),
-}
-
-// A histogram, which has the place after it.
-#[derive(Clone, Copy)]
-enum HistogramRead {
-    Got(HistogramView),
-    Fault(Refusal),
-}
-
-// ---- the numbers
-
-// Zero count, count and sum, after a hint, a schema and a zero threshold.
-fn totals_at(
-    body: &[u8],
-    kind: BucketKind,
-    hint: u8,
-    schema: i32,
-    threshold: u64,
-    at: usize,
-) -> NumbersRead
-    ensures { result ≡ numbers_read (totals_at kind hint schema threshold body.now at) }
-{
-    match count_at(body, kind, at) {
-        NumberRead::Got {
-            value: zeros,
-            next: second,
-        } => match count_at(body, kind, second) {
-            NumberRead::Got {
-                value: count,
-                next: third,
-            } => match fixed_at(body, third) {
-                NumberRead::Got { value: sum, next } => NumbersRead::Got {
-                    numbers: Numbers {
-                        hint,
-                        schema,
-                        threshold,
-                        zeros,
-                        count,
-                        sum,
-                    },
-                    next,
-                },
-                NumberRead::Fault(why) => NumbersRead::Fault(why),
-            },
-            NumberRead::Fault(why) => NumbersRead::Fault(why),
-        },
-        NumberRead::Fault(why) => NumbersRead::Fault(why),
-    }
-}
-
-// Hint, schema and zero threshold, and then the others.
-fn numbers_at(body: &[u8], kind: BucketKind, at: usize) -> NumbersRead
+// Hint, schema, zero threshold, zero count, count and sum.
+fn numbers_at(body: &[u8], kind: BucketKind, at: usize) -> Result<(Numbers, usize), Refusal>
     ensures { result ≡ numbers_read (numbers_at kind body.now at) }
 {
     if body.len() <= at {
-        return NumbersRead::Fault(Refusal::Short(Offset(at)));
+        return Err(Refusal::Short(Offset(at)));
     }
     let hint = body[at];
-    let second = at + 1;
-    match int32_at(body, second) {
-        Int32Read::Got {
-            value: schema,
-            next: third,
-        } => match fixed_at(body, third) {
-            NumberRead::Got {
-                value: threshold,
-                next,
-            } => totals_at(body, kind, hint, schema, threshold, next),
-            NumberRead::Fault(why) => NumbersRead::Fault(why),
+    let (schema, third) = int32_at(body, at + 1)?;
+    let (threshold, fourth) = fixed_at(body, third)?;
+    let (zeros, fifth) = count_at(body, kind, fourth)?;
+    let (count, sixth) = count_at(body, kind, fifth)?;
+    let (sum, next) = fixed_at(body, sixth)?;
+    Ok((
+        Numbers {
+            hint,
+            schema,
+            threshold,
+            zeros,
+            count,
+            sum,
         },
-        Int32Read::Fault(why) => NumbersRead::Fault(why),
-    }
+        next,
+    ))
 }
-
-// ---- a histogram
 
 // The tag of a bucket kind.
 fn tag_of(kind: BucketKind) -> u8
@@ -115,97 +57,72 @@ fn tag_of(kind: BucketKind) -> u8
 }
 
 // Head, numbers and lists.
-fn histogram_at(body: &[u8], kind: BucketKind, at: usize) -> HistogramRead
+fn histogram_at(body: &[u8], kind: BucketKind, at: usize) -> Result<HistogramView, Refusal>
     ensures { result ≡ histogram_read kind (histogram_at kind body.now at) }
 {
-    match head_at(body, at) {
-        HeadRead::Got {
-            id,
-            time,
-            next: second,
-        } => match numbers_at(body, kind, second) {
-            NumbersRead::Got {
-                numbers,
-                next: third,
-            } => match lists_at(body, kind, third) {
-                ListsRead::Got {
-                    spans,
-                    buckets,
-                    next,
-                } => HistogramRead::Got(HistogramView {
-                    tag: tag_of(kind),
-                    id,
-                    time,
-                    numbers,
-                    spans,
-                    buckets,
-                    next: Offset(next),
-                }),
-                ListsRead::Fault(why) => HistogramRead::Fault(why),
-            },
-            NumbersRead::Fault(why) => HistogramRead::Fault(why),
-        },
-        HeadRead::Fault(why) => HistogramRead::Fault(why),
-    }
+    let (id, time, second) = head_at(body, at)?;
+    let (numbers, third) = numbers_at(body, kind, second)?;
+    let (spans, buckets, next) = lists_at(body, kind, third)?;
+    Ok(HistogramView {
+        tag: tag_of(kind),
+        id,
+        time,
+        numbers,
+        spans,
+        buckets,
+        next: Offset(next),
+    })
 }
 
 // The place after the histogram at a place.
-pub fn histogram_end(body: &[u8], kind: BucketKind, at: usize) -> Place
+pub fn histogram_end(body: &[u8], kind: BucketKind, at: usize) -> Result<usize, Refusal>
     ensures { result ≡ end_of (entry_at (histograms kind) body.now at) }
 {
-    match histogram_at(body, kind, at) {
-        HistogramRead::Got(view) => {
-            let next = view.next;
-            Place::At(next.0)
-        }
-        HistogramRead::Fault(why) => Place::Fault(why),
-    }
+    let view = histogram_at(body, kind, at)?;
+    Ok(view.next.0)
 }
 
 // The histogram at a place of a body (FORMAT 11.6), or the plain end at the body's end.
-pub fn histogram_entry(body: &[u8], kind: BucketKind, at: usize) -> HistogramAnswer
+pub fn histogram_entry(
+    body: &[u8],
+    kind: BucketKind,
+    at: usize,
+) -> Result<Option<HistogramView>, Refusal>
     ensures { result ≡ histogram_there kind body.now
         (entry_place (histograms kind) body.now at) }
 {
-    match row_entry_place(body, at) {
-        EntryPlace::At(from) => match histogram_at(body, kind, from.0) {
-            HistogramRead::Got(view) => HistogramAnswer::Found(view),
-            HistogramRead::Fault(why) => HistogramAnswer::Refused(why),
-        },
-        EntryPlace::End => HistogramAnswer::End,
-        EntryPlace::Refused(why) => HistogramAnswer::Refused(why),
-    }
+    let place = row_entry_place(body, at)?;
+    let Some(from) = place else {
+        return Ok(None);
+    };
+    let view = histogram_at(body, kind, from.0)?;
+    Ok(Some(view))
 }
 
 // A histogram as any entry is reported: with its sum (FORMAT 11.3).
-fn as_entry(answer: HistogramAnswer) -> EntryAnswer
-    ensures { result ≡ as_entry answer }
+fn as_entry(view: HistogramView) -> EntryView
+    ensures { result ≡ told view }
 {
-    match answer {
-        HistogramAnswer::Found(view) => {
-            let id = view.id;
-            let time = view.time;
-            let numbers = view.numbers;
-            let next = view.next;
-            EntryAnswer::Found(EntryView {
-                tag: view.tag,
-                id,
-                time,
-                max: Timestamp(0),
-                bits: numbers.sum,
-                strings: 0,
-                first: next,
-                next,
-            })
-        }
-        HistogramAnswer::End => EntryAnswer::End,
-        HistogramAnswer::Refused(why) => EntryAnswer::Refused(why),
+    EntryView {
+        tag: view.tag,
+        id: view.id,
+        time: view.time,
+        max: Timestamp(0),
+        bits: view.numbers.sum,
+        strings: 0,
+        first: view.next,
+        next: view.next,
     }
 }
 
 // The entry at a place of a body.
-pub fn histogram_as_entry(body: &[u8], kind: BucketKind, at: usize) -> EntryAnswer
+pub fn histogram_as_entry(
+    body: &[u8],
+    kind: BucketKind,
+    at: usize,
+) -> Result<Option<EntryView>, Refusal>
     ensures { result ≡ entry_known (known (histograms kind)) body.now at }
 {
-    as_entry(histogram_entry(body, kind, at))
+    let there = histogram_entry(body, kind, at)?;
+    Ok(there.map(as_entry))
 }

@@ -1,10 +1,8 @@
 -- Where entries end: where their fields do, one after the other.
-use mathlib.Core.Path.{◌≡◌}
-use mathlib.Core.List.{List}
-use Prim.Native.Nat.{ℕ}
+use Rattle.std.proofs.Common.{◌≡◌, List, ℕ}
 use Rattle.body_format.specs.Fields.{byte_at, fixed_at, uvarint_at, varint_at, string_list_at}
 use Rattle.body_format.specs.Entries.{series_at, tombstone_at, metadata_at}
-use Rattle.body_fields.specs.declared.Place.{Place}
+use Rattle.body_fields.specs.Results.Place.{Place}
 use Rattle.body_fields.specs.Ends.{end_of, onward}
 use Rattle.body_fields.specs.EndLaws.{end_two, end_three}
 

@@ -1,13 +1,7 @@
 -- Where the entry of a place is in a body without rows: there, since place 1 is the first entry's
 -- own.
-use mathlib.Core.Path.{◌≡◌, refl, sym, ap, ◌∙◌}
-use mathlib.Core.Bool.{Bool, true, false}
-use mathlib.Core.List.{List}
-use Prim.Native.Nat.{ℕ, ◌≤◌, ◌<◌}
-use native.Mathlib.Omega.{arith}
-use borrow.Author.Tests.{eqb-true, eqb-false}
-use lib.Dec.{eqb}
-use lib.ListN.{length}
+use Rattle.std.proofs.Common.{◌≡◌, refl, Bool, true, false, List, ℕ, ◌≤◌, ◌<◌, eqb, length, sym, ap, ◌∙◌, arith, eqb-true}
+use borrow.Author.Tests.{eqb-false}
 use Rattle.body_format.specs.Entries.{BodyType, has_rows, first_at}
 use Rattle.body_format.specs.Reading.{place_or_end, first_place, entry_place}
 use Rattle.body_format.proofs.Laws.Places.{known-first, known-later}

@@ -1,12 +1,8 @@
 -- What each entry's fields give, fault by fault, in the code's forms.
-use mathlib.Core.Path.{◌≡◌}
-use mathlib.Core.List.{List}
-use Prim.Native.Nat.{ℕ}
-use lib.IntN.{ℤ, pos}
-use lib.ListN.{length}
+use Rattle.std.proofs.Common.{◌≡◌, List, ℕ, ℤ, pos, length}
 use Rattle.wal_types.specs.declared.Refusal.{Refusal}
 use Rattle.wal_types.specs.Terms.{offset, series_id, timestamp}
-use Rattle.body_format.specs.declared.EntryAnswer.TheVariants.{Found, Refused}
+use Rattle.body_format.specs.Results.EntryAnswer.{Found, Refused}
 use Rattle.body_format.specs.Fields.{got, fault, StringList, fixed_at, uvarint_at, varint_at, byte_at, string_list_at}
 use Rattle.body_format.specs.Entries.{series_at, tombstone_at, metadata_at}
 use Rattle.body_format.specs.Reading.{answer_entry}

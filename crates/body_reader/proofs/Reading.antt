@@ -1,25 +1,20 @@
 -- A string's answer, the list of entries one step at a time, and where the entries begin.
-use mathlib.Core.Path.{◌≡◌, refl, sym, ap, ◌∙◌}
-use mathlib.Core.Bool.{Bool, true}
-use mathlib.Core.List.{List, [], ◌∷◌}
-use Prim.Native.Nat.{ℕ, zero, suc, ◌+◌, ◌-◌, ◌≤◌, ◌<◌}
-use native.Mathlib.Omega.{arith}
-use native.Mathlib.Nat.{add-zero}
-use lib.ListN.{length}
+use Rattle.std.specs.Prelude.{◌≡◌, refl, Bool, true, List, [], ◌∷◌, ℕ, zero, suc, ◌+◌, ◌-◌, ◌≤◌, ◌<◌, length}
+use Rattle.std.proofs.Common.{sym, ap, ◌∙◌, arith, add-zero}
 use Rattle.wal_types.specs.declared.Refusal.{Refusal}
 use Rattle.wal_types.specs.declared.Refusal.TheVariants.{Short}
 use Rattle.wal_types.specs.Terms.{offset}
-use Rattle.body_format.specs.declared.CheckAnswer.{CheckAnswer}
-use Rattle.body_format.specs.declared.CheckAnswer.TheVariants.{Entries, Refused as CheckRefused}
-use Rattle.body_format.specs.declared.StringAnswer.TheVariants.{Found as StringFound, Refused as StringRefused}
+use Rattle.body_format.specs.Results.CheckAnswer.{CheckAnswer}
+use Rattle.body_format.specs.Results.CheckAnswer.{Entries, Refused as CheckRefused}
+use Rattle.body_format.specs.Results.StringAnswer.{Found as StringFound, Refused as StringRefused}
 use Rattle.body_format.specs.Fields.{Field, got, fault, and_then, StringField}
 use Rattle.body_format.specs.Entries.{BodyType, samples, Entry, Placed, has_rows, entry_at, entries_from, first_at, entries, known}
 use Rattle.body_format.specs.Reading.{check_fields, check_known, check_body, answer_string}
 use Rattle.body_format.proofs.Laws.Bounds.{of_got, entry_ahead}
 use Rattle.body_format.proofs.Laws.Fields.{fixed_short}
 use Rattle.body_format.proofs.Laws.Lists.{entries-end, entries_suc, first_bounds}
-use Rattle.body_fields.specs.declared.Place.{Place}
-use Rattle.body_fields.specs.declared.Place.TheVariants.{At, Fault}
+use Rattle.body_fields.specs.Results.Place.{Place}
+use Rattle.body_fields.specs.Results.Place.{At, Fault}
 use Rattle.body_fields.specs.Ends.{end_of}
 use Rattle.body_fields.specs.Laws.{never}
 use Rattle.body_rows.specs.Rows.{place_read}

@@ -1,25 +1,22 @@
 -- The type of a body decides what the reading calls answer first.
-use mathlib.Core.Path.{◌≡◌, refl, sym, ap, ◌∙◌}
-use mathlib.Core.List.{List, [], ◌∷◌}
-use Prim.Native.Nat.{ℕ, ◌<◌}
-use lib.ListN.{length}
-use native.Mathlib.Omega.{arith}
+use Rattle.std.specs.Prelude.{◌≡◌, refl, List, [], ◌∷◌, ℕ, ◌<◌, length}
+use Rattle.std.proofs.Common.{sym, ap, ◌∙◌, arith}
 use Rattle.wal_types.specs.declared.Refusal.{Refusal}
 use Rattle.wal_types.specs.declared.Refusal.TheVariants.{UnknownType, WrongKind}
 use Rattle.body_format.specs.declared.BucketKind.{BucketKind}
-use Rattle.body_format.specs.declared.CheckAnswer.TheVariants.{Refused as CheckRefused}
-use Rattle.body_format.specs.declared.EntryAnswer.TheVariants.{Refused as EntryRefused}
-use Rattle.body_format.specs.declared.StringAnswer.TheVariants.{Refused as StringRefused}
+use Rattle.body_format.specs.Results.CheckAnswer.{Refused as CheckRefused}
+use Rattle.body_format.specs.Results.EntryAnswer.{Refused as EntryRefused}
+use Rattle.body_format.specs.Results.StringAnswer.{Refused as StringRefused}
 use Rattle.body_format.specs.Entries.{BodyType, series, samples, tombstones, exemplars, metadata, histograms}
 use Rattle.body_format.specs.Entries.{Known, known, unknown, body_type_of}
 use Rattle.body_format.specs.Reading.{check_known, check_body, entry_known, read_entry, string_known, read_string, histograms_only, by_bucket_kind}
 use Rattle.body_fields.specs.Laws.{never}
 use Rattle.body_reader.specs.declared.tags.BodyLayout.{BodyLayout}
 use Rattle.body_reader.specs.declared.tags.BodyLayout.TheVariants.{Rows, Plain, Histograms}
-use Rattle.body_reader.specs.declared.tags.KindRead.{KindRead}
-use Rattle.body_reader.specs.declared.tags.KindRead.TheVariants as kind
-use Rattle.body_reader.specs.declared.tags.TypeRead.{TypeRead}
-use Rattle.body_reader.specs.declared.tags.TypeRead.TheVariants as type
+use Rattle.body_reader.specs.Results.KindRead.{KindRead}
+use Rattle.body_reader.specs.Results.KindRead as kind
+use Rattle.body_reader.specs.Results.TypeRead.{TypeRead}
+use Rattle.body_reader.specs.Results.TypeRead as type
 use Rattle.body_reader.specs.Layouts.{type_in, type_found, type_read}
 
 -- an answer by the type that was found
@@ -91,6 +88,15 @@ by_kind r f (b ∷ s) = by-found r f (body_type_of b)
 pub kind_layout : {A : Type 0} (r : Refusal → A) (f : BucketKind → A) (s : List ℕ) {t : TypeRead} {l m : BodyLayout}
     → t ≡ type_read s → t ≡ type.Known l → l ≡ m → by_layout r f m ≡ by_bucket_kind r f s
 kind_layout r f s read g h = ap (by_layout r f) (sym h) ∙ ap (by_found r f) (sym g ∙ read) ∙ by_kind r f s
+
+pub kind_other : {A : Type 0} (r : Refusal → A) (f : BucketKind → A) (s : List ℕ) {t : TypeRead} {l : BodyLayout}
+    → t ≡ type_read s → t ≡ type.Known l → ((k : BucketKind) → l ≡ Histograms k → ⊥) → r WrongKind ≡ by_bucket_kind r f s
+kind_other r f s {t} {l} read g h = other l h ∙ kind_layout r f s read g refl
+  where
+    other : (m : BodyLayout) → ((k : BucketKind) → m ≡ Histograms k → ⊥) → r WrongKind ≡ by_layout r f m
+    other (Rows labelled) h = refl
+    other (Plain k) h = refl
+    other (Histograms k) h = absurd (h k refl)
 
 pub kind-refused : {A : Type 0} (r : Refusal → A) (f : BucketKind → A) (s : List ℕ) {t : TypeRead} {why : Refusal}
     → t ≡ type_read s → t ≡ type.Refused why → r why ≡ by_bucket_kind r f s

@@ -9,8 +9,8 @@ use Rattle.body_plain.specs.declared.PlainType.TheVariants.{Series, Tombstones, 
 use Rattle.body_plain.specs.Plain.{plain_in}
 use Rattle.body_reader.specs.declared.tags.BodyLayout.{BodyLayout}
 use Rattle.body_reader.specs.declared.tags.BodyLayout.TheVariants.{Rows, Plain, Histograms}
-use Rattle.body_reader.specs.declared.tags.TypeRead.{TypeRead}
-use Rattle.body_reader.specs.declared.tags.TypeRead.TheVariants as type
+use Rattle.body_reader.specs.Results.TypeRead.{TypeRead}
+use Rattle.body_reader.specs.Results.TypeRead as type
 
 abbrev pub type_in : BodyLayout → BodyType
 type_in (Rows labelled) = rows_type labelled

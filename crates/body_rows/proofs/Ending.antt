@@ -1,11 +1,12 @@
 -- Where rows and their entries end: where their fields do, one after the other.
-use mathlib.Core.Path.{◌≡◌, sym, ◌∙◌}
-use mathlib.Core.List.{List}
-use Prim.Native.Nat.{ℕ}
+use Rattle.std.proofs.Common.{◌≡◌, refl, Bool, true, false, List, ℕ, sym, ◌∙◌}
 use Rattle.body_format.specs.Fields.{fixed_at, uvarint_at, string_list_at}
 use Rattle.body_format.specs.Heads.{delta_at, head_at}
-use Rattle.body_format.specs.Entries.{row_at, sample_at, exemplar_at}
-use Rattle.body_fields.specs.declared.Place.{Place}
+use Rattle.body_format.specs.Entries.{row_at, sample_at, exemplar_at, entry_at}
+use Rattle.wal_types.specs.declared.Refusal.{Refusal}
+use Rattle.body_fields.specs.Results.Place.{Place}
+use Rattle.body_fields.specs.Results.Place.{Fault}
+use Rattle.body_rows.specs.Rows.{rows_type}
 use Rattle.body_fields.specs.Ends.{end_of, onward}
 use Rattle.body_fields.specs.EndLaws.{end-one, end_two, delta_end}
 
@@ -30,3 +31,9 @@ module _ (s : List ℕ) (p : ℕ) {t : Place} where
       → t ≡ end_of (exemplar_at s p)
   unfolding exemplar_at
   exemplar_ends = end_two (row_at s p) (string_list_at s) _
+
+-- a fault of the row is the entry's
+pub entry_faults : (s : List ℕ) (p : ℕ) (labelled : Bool) {why : Refusal} → Fault why ≡ end_of (row_at s p)
+    → Fault why ≡ end_of (entry_at (rows_type labelled) s p)
+entry_faults s p false e = sample-ends s p e
+entry_faults s p true e = exemplar_ends s p e refl

@@ -1,17 +1,11 @@
 -- Where the row of a place is, and which places are bad: in a body that ends before its rows, and in
 -- one that does not.
-use mathlib.Core.Path.{◌≡◌, refl, sym, ap, ◌∙◌}
-use mathlib.Core.Bool.{Bool, true, false, cond}
-use mathlib.Core.List.{List}
-use Prim.Native.Nat.{ℕ, ◌≤◌, ◌<◌}
-use native.Mathlib.Omega.{arith}
-use borrow.Author.Tests.{ne_eqb, eqb-true, eqb-false, ltb-true, ltb-false}
-use lib.Dec.{eqb, ltb}
-use lib.ListN.{length}
+use Rattle.std.proofs.Common.{◌≡◌, refl, Bool, true, false, cond, List, ℕ, ◌≤◌, ◌<◌, eqb, ltb, length, sym, ap, ◌∙◌, arith, ne_eqb, eqb-true, ltb-true, ltb-false}
+use borrow.Author.Tests.{eqb-false}
 use Rattle.wal_types.specs.declared.Refusal.{Refusal}
 use Rattle.wal_types.specs.declared.Refusal.TheVariants.{BadPlace, Short}
 use Rattle.wal_types.specs.Terms.{offset}
-use Rattle.body_format.specs.declared.EntryPlace.TheVariants.{End, Refused}
+use Rattle.body_format.specs.Results.EntryPlace.{End, Refused}
 use Rattle.body_format.specs.Fields.{fault}
 use Rattle.body_format.specs.Entries.{BodyType, has_rows, first_at}
 use Rattle.body_format.specs.Reading.{place_or_end, first_place, entry_place}

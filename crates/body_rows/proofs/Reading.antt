@@ -1,16 +1,12 @@
 -- What the fields of a row and of an entry of rows give, fault by fault, in the code's forms.
-use mathlib.Core.Bool.{Bool, true, false}
-use mathlib.Core.Path.{◌≡◌, refl, ap₂, ◌∙◌}
-use mathlib.Core.List.{List}
-use Prim.Native.Nat.{ℕ}
-use lib.IntN.{ℤ, pos}
+use Rattle.std.proofs.Common.{Bool, true, false, ◌≡◌, refl, List, ℕ, ℤ, pos, ap, ap₂, ◌∙◌}
 use Rattle.wal_types.specs.declared.Refusal.{Refusal}
 use Rattle.wal_types.specs.declared.SeriesId.{SeriesId}
 use Rattle.wal_types.specs.declared.Timestamp.{Timestamp}
 use Rattle.wal_types.specs.Terms.{offset, series_id, timestamp}
 use Rattle.wal_types.specs.Deltas.{plus, to_bits, int_from_bits}
 use Rattle.varint.specs.Varint.{unzigzag}
-use Rattle.body_format.specs.declared.EntryAnswer.TheVariants.{Found, Refused}
+use Rattle.body_format.specs.Results.EntryAnswer.{Found, Refused}
 use Rattle.body_format.specs.Fields.{Field, got, fault, StringList, fixed_at, uvarint_at, string_list_at}
 use Rattle.body_format.specs.Heads.{head_at}
 use Rattle.body_format.proofs.Laws.Heads.{delta_got, delta_fault}
@@ -18,9 +14,9 @@ use Rattle.body_format.specs.Entries.{Row, row_at, sample_at, exemplar_at, entry
 use Rattle.body_format.specs.Reading.{answer_entry}
 use Rattle.body_fields.specs.Readings.{string_list_read}
 use Rattle.body_fields.specs.Laws.{never}
-use Rattle.body_rows.specs.declared.RowRead.{RowRead}
-use Rattle.body_rows.specs.declared.RowRead.TheVariants as row
-use Rattle.body_rows.specs.declared.HeadRead.TheVariants as head
+use Rattle.body_rows.specs.Results.RowRead.{RowRead}
+use Rattle.body_rows.specs.Results.RowRead as row
+use Rattle.body_rows.specs.Results.HeadRead as head
 use Rattle.body_rows.specs.Rows.{rows_type, head_read}
 use Rattle.body_rows.specs.Forms.{BaseIn, row_read, row_got, exemplar_of}
 
@@ -29,11 +25,8 @@ use Rattle.body_rows.specs.Forms.{BaseIn, row_read, row_got, exemplar_of}
 pub row-got : (f : Field Row) (r : RowRead) {id : SeriesId} {time : Timestamp} {v q : ℕ}
     → r ≡ row_read f → r ≡ row.Got id time v q → f ≡ got (record { id = id.0; time = time.0; bits = v }) q
 row-got (got m p) r {id} {time} {v} {q} e g =
-    let a : id ≡ series_id m.id = cc in
-    let b : time ≡ timestamp m.time = cc in
-    let c : v ≡ m.bits = cc in
-    let d : q ≡ p = cc in
-    rw (a, b, c, d)
+    let w : ◌≡◌ {A = SeriesId × Timestamp × ℕ × ℕ} (series_id m.id, timestamp m.time, m.bits, p) (id, time, v, q) = cc in
+    ap (λ (x : SeriesId × Timestamp × ℕ × ℕ). got (record { id = x.0.0; time = x.1.0; bits = x.2 }) x.3) w
 row-got (fault w) r e g = never cc
 
 pub row-fault : (f : Field Row) (r : RowRead) {why : Refusal} → r ≡ row_read f → r ≡ row.Fault why → f ≡ fault why

@@ -1,21 +1,15 @@
 -- Rows of ten bytes: how they are recognized, and what they read as.
-use mathlib.Core.Path.{◌≡◌}
-use mathlib.Core.Bool.{true, false}
-use mathlib.Core.List.{List}
-use Prim.Native.Nat.{ℕ, ◌+◌, ◌-◌, ◌≤◌, ◌<◌}
-use native.Mathlib.Omega.{arith}
-use borrow.Author.Tests.{lt-ltb, le-ltb, lt-leb, le-leb}
-use lib.Dec.{ltb}
-use lib.ListN.{length, get_or, drop}
+use Rattle.std.proofs.Common.{◌≡◌, true, false, List, ℕ, ◌+◌, ◌-◌, ◌≤◌, ◌<◌, ltb, length, get_or, drop, arith, lt-ltb, le-ltb, le-leb}
+use borrow.Author.Tests.{lt-leb}
 use Rattle.big_endian.specs.Fixed.{read_be8}
 use Rattle.wal_types.specs.declared.SeriesId.{SeriesId}
 use Rattle.wal_types.specs.declared.Timestamp.{Timestamp}
 use Rattle.body_format.specs.Heads.{head_at}
 use Rattle.body_format.proofs.Laws.Heads.{delta_got}
 use Rattle.body_format.specs.Entries.{row_at}
-use Rattle.body_fields.specs.declared.Place.TheVariants.{At}
+use Rattle.body_fields.specs.Results.Place.{At}
 use Rattle.body_fields.specs.Ends.{end_of}
-use Rattle.body_rows.specs.declared.RowRead.{RowRead}
+use Rattle.body_rows.specs.Results.RowRead.{RowRead}
 use Rattle.body_rows.specs.Forms.{is_short_row, BaseIn, row_got, row_read}
 use Rattle.body_rows.specs.Short.{short-id, short-time, short-bits}
 use Rattle.body_rows.proofs.Reading.{row-all}

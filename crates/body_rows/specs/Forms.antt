@@ -7,14 +7,14 @@ use Rattle.wal_types.specs.Terms.{offset, series_id, timestamp}
 use Rattle.wal_types.specs.Deltas.{plus, to_bits, int_from_bits}
 use Rattle.varint.specs.Varint.{unzigzag}
 use Rattle.big_endian.specs.Fixed.{read_be8}
-use Rattle.body_format.specs.declared.EntryAnswer.{EntryAnswer}
-use Rattle.body_format.specs.declared.EntryAnswer.TheVariants.{Found, Refused}
+use Rattle.body_format.specs.Results.EntryAnswer.{EntryAnswer}
+use Rattle.body_format.specs.Results.EntryAnswer.{Found, Refused}
 use Rattle.body_format.specs.Fields.{Field, got, fault}
 use Rattle.body_format.specs.Entries.{Row}
-use Rattle.body_fields.specs.declared.StringListRead.{StringListRead}
-use Rattle.body_fields.specs.declared.StringListRead.TheVariants as list
-use Rattle.body_rows.specs.declared.RowRead.{RowRead}
-use Rattle.body_rows.specs.declared.RowRead.TheVariants as row
+use Rattle.body_fields.specs.Results.StringListRead.{StringListRead}
+use Rattle.body_fields.specs.Results.StringListRead as list
+use Rattle.body_rows.specs.Results.RowRead.{RowRead}
+use Rattle.body_rows.specs.Results.RowRead as row
 
 -- the first id and the first timestamp are those in bytes 1 to 16
 pub record BaseIn (s : List ℕ) (id : SeriesId) (time : Timestamp) : Type 0 where

@@ -1,3 +1,4 @@
+pub mod Results
 pub mod Rows
 pub mod Forms
 pub mod Laws

@@ -6,10 +6,10 @@ use Rattle.wal_types.specs.Terms.{series_id, timestamp}
 use Rattle.body_format.specs.Fields.{Field, got, fault}
 use Rattle.body_format.specs.Heads.{Head}
 use Rattle.body_format.specs.Entries.{BodyType, samples, exemplars}
-use Rattle.body_fields.specs.declared.Place.{Place}
-use Rattle.body_fields.specs.declared.Place.TheVariants.{At, Fault}
-use Rattle.body_rows.specs.declared.HeadRead.{HeadRead}
-use Rattle.body_rows.specs.declared.HeadRead.TheVariants as head
+use Rattle.body_fields.specs.Results.Place.{Place}
+use Rattle.body_fields.specs.Results.Place.{At, Fault}
+use Rattle.body_rows.specs.Results.HeadRead.{HeadRead}
+use Rattle.body_rows.specs.Results.HeadRead as head
 
 -- rows with labels are exemplars, rows without are samples
 abbrev pub rows_type : Bool → BodyType

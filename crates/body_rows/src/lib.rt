@@ -1,9 +1,10 @@
 // Types 2 and 4 (FORMAT 9.3): rows, after a first id and a first timestamp. Each is read at its
 // place, or only walked over to its end: counting needs no more. What histograms share with them is
-// here too: the head of a row, and where the row of a place is.
+// here too: the head of a row, and where the row of a place is. Type 4 is `labelled`: a bool, as in
+// the definition `rows_type` of the contracts.
 #![tactic(auto)]
 
-ghost use Rattle.std.specs.Prelude.{◌≡◌, Bool, true, ◌<◌, length};
+ghost use Rattle.std.specs.Prelude.{◌≡◌, Bool, true, Ok, ◌<◌, length};
 ghost use Rattle.wal_types.specs.Deltas.{plus, to_bits, int_from_bits};
 ghost use Rattle.varint.specs.Varint.{unzigzag};
 ghost use Rattle.body_format.specs.Fields.{string_list_at};
@@ -16,8 +17,8 @@ ghost use Rattle.body_rows.specs.Rows.{rows_type, place_read, head_read};
 ghost use Rattle.body_rows.specs.Forms.{BaseIn, row_read, row_got, is_short_row, exemplar_of, row_place};
 
 use body_fields::ends::{fixed_end, list_end, uvarint_end};
-use body_fields::{NumberRead, Place, StringListRead, fixed_at, string_list_at, uvarint_at};
-use body_format::{EXEMPLARS, EntryAnswer, EntryPlace, EntryView, SAMPLES};
+use body_fields::{fixed_at, string_list_at, uvarint_at};
+use body_format::{EXEMPLARS, EntryView, SAMPLES};
 use delta::delta_of_zigzag;
 use wal_types::{Offset, Refusal, SeriesId, Timestamp, id_plus, time_of_bits, time_plus};
 
@@ -32,29 +33,6 @@ const SHORT_ROW: usize = 10;
 struct Base {
     pub id: SeriesId,
     pub time: Timestamp,
-}
-
-// A row's id, time and value, and the place after it.
-#[derive(Clone, Copy)]
-enum RowRead {
-    Got {
-        id: SeriesId,
-        time: Timestamp,
-        bits: u64,
-        next: usize,
-    },
-    Fault(Refusal),
-}
-
-// A row's id and time, and the place after its head.
-#[derive(Clone, Copy)]
-pub enum HeadRead {
-    Got {
-        id: SeriesId,
-        time: Timestamp,
-        next: usize,
-    },
-    Fault(Refusal),
 }
 
 // ---- a row
@@ -108,124 +86,112 @@ fn row_of(
     time_zigzag: u64,
     bits: u64,
     next: usize,
-) -> RowRead
-    ensures { result ≡ row_got first_id first_time id_zigzag time_zigzag bits next }
+) -> (SeriesId, Timestamp, u64, usize)
+    ensures { Ok result ≡ row_got first_id first_time id_zigzag time_zigzag bits next }
 {
-    RowRead::Got {
-        id: id_plus(first_id, delta_of_zigzag(id_zigzag)),
-        time: row_time(first_time, time_zigzag),
+    (
+        id_plus(first_id, delta_of_zigzag(id_zigzag)),
+        row_time(first_time, time_zigzag),
         bits,
         next,
-    }
+    )
 }
 
 // Id delta, timestamp delta and value, field by field.
-fn long_row_at(body: &[u8], first_id: SeriesId, first_time: Timestamp, at: usize) -> RowRead
+fn long_row_at(
+    body: &[u8],
+    first_id: SeriesId,
+    first_time: Timestamp,
+    at: usize,
+) -> Result<(SeriesId, Timestamp, u64, usize), Refusal>
     requires { BaseIn body.now first_id first_time }
     ensures { result ≡ row_read (row_at body.now at) }
 {
-    match uvarint_at(body, at) {
-        NumberRead::Got {
-            value: id_zigzag,
-            next: second,
-        } => match uvarint_at(body, second) {
-            NumberRead::Got {
-                value: time_zigzag,
-                next: third,
-            } => match fixed_at(body, third) {
-                NumberRead::Got { value: bits, next } => {
-                    row_of(first_id, first_time, id_zigzag, time_zigzag, bits, next)
-                }
-                NumberRead::Fault(why) => RowRead::Fault(why),
-            },
-            NumberRead::Fault(why) => RowRead::Fault(why),
-        },
-        NumberRead::Fault(why) => RowRead::Fault(why),
-    }
+    let (id_zigzag, second) = uvarint_at(body, at)?;
+    let (time_zigzag, third) = uvarint_at(body, second)?;
+    let (bits, next) = fixed_at(body, third)?;
+    let row = row_of(first_id, first_time, id_zigzag, time_zigzag, bits, next);
+    Ok(row)
 }
 
 // The place after such a row.
-fn long_row_end(body: &[u8], at: usize) -> Place
+fn long_row_end(body: &[u8], at: usize) -> Result<usize, Refusal>
     ensures { result ≡ end_of (row_at body.now at) }
 {
-    let second = uvarint_end(body, Place::At(at));
-    let third = uvarint_end(body, second);
+    let second = uvarint_end(body, at)?;
+    let third = uvarint_end(body, second)?;
     fixed_end(body, third)
 }
 
-// What types 2 and 4 share: a row, short or long.
-fn row_at(body: &[u8], first_id: SeriesId, first_time: Timestamp, at: usize) -> RowRead
+// What types 2 and 4 share: a row, short or long, by its id, its time, its value and the place
+// after.
+fn row_at(
+    body: &[u8],
+    first_id: SeriesId,
+    first_time: Timestamp,
+    at: usize,
+) -> Result<(SeriesId, Timestamp, u64, usize), Refusal>
     requires { BaseIn body.now first_id first_time }
     ensures { result ≡ row_read (row_at body.now at) }
 {
     if is_short_row(body, at) {
-        let second = at + 1;
-        let third = at + 2;
-        let next = at + SHORT_ROW;
         let id_zigzag = body[at] as u64;
-        let time_zigzag = body[second] as u64;
-        let bits = big_endian::get_be8(body, third);
-        return row_of(first_id, first_time, id_zigzag, time_zigzag, bits, next);
+        let time_zigzag = body[at + 1] as u64;
+        let bits = big_endian::get_be8(body, at + 2);
+        let next = at + SHORT_ROW;
+        let row = row_of(first_id, first_time, id_zigzag, time_zigzag, bits, next);
+        return Ok(row);
     }
     long_row_at(body, first_id, first_time, at)
 }
 
 // The place after a row, short or long.
-fn row_end(body: &[u8], at: usize) -> Place
+fn row_end(body: &[u8], at: usize) -> Result<usize, Refusal>
     ensures { result ≡ end_of (row_at body.now at) }
 {
     if is_short_row(body, at) {
-        let next = at + SHORT_ROW;
-        return Place::At(next);
+        return Ok(at + SHORT_ROW);
     }
     long_row_end(body, at)
 }
 
-// The head of a row alone: id delta and timestamp delta.
-pub fn head_at(body: &[u8], at: usize) -> HeadRead
+// The head of a row alone, id delta and timestamp delta: the id, the time and the place after.
+pub fn head_at(body: &[u8], at: usize) -> Result<(SeriesId, Timestamp, usize), Refusal>
     ensures { result ≡ head_read (head_at body.now at) }
 {
-    match uvarint_at(body, at) {
-        NumberRead::Got {
-            value: id_zigzag,
-            next: second,
-        } => match uvarint_at(body, second) {
-            NumberRead::Got {
-                value: time_zigzag,
-                next,
-            } => {
-                let base = base_of(body);
-                HeadRead::Got {
-                    id: id_plus(base.id, delta_of_zigzag(id_zigzag)),
-                    time: row_time(base.time, time_zigzag),
-                    next,
-                }
-            }
-            NumberRead::Fault(why) => HeadRead::Fault(why),
-        },
-        NumberRead::Fault(why) => HeadRead::Fault(why),
-    }
+    let (id_zigzag, second) = uvarint_at(body, at)?;
+    let (time_zigzag, next) = uvarint_at(body, second)?;
+    let base = base_of(body);
+    Ok((
+        id_plus(base.id, delta_of_zigzag(id_zigzag)),
+        row_time(base.time, time_zigzag),
+        next,
+    ))
 }
 
 // ---- a row, and its labels
 
 // An exemplar: a row, and the labels that follow it.
-fn exemplar_of(body: &[u8], id: SeriesId, time: Timestamp, bits: u64, labels: usize) -> EntryAnswer
+fn exemplar_of(
+    body: &[u8],
+    id: SeriesId,
+    time: Timestamp,
+    bits: u64,
+    labels: usize,
+) -> Result<Option<EntryView>, Refusal>
     ensures { result ≡ exemplar_of id time bits (string_list_read (string_list_at body.now labels)) }
 {
-    match string_list_at(body, labels) {
-        StringListRead::Got { count, first, next } => EntryAnswer::Found(EntryView {
-            tag: EXEMPLARS,
-            id,
-            time,
-            max: Timestamp(0),
-            bits,
-            strings: count,
-            first: Offset(first),
-            next: Offset(next),
-        }),
-        StringListRead::Fault(why) => EntryAnswer::Refused(why),
-    }
+    let (count, first, next) = string_list_at(body, labels)?;
+    Ok(Some(EntryView {
+        tag: EXEMPLARS,
+        id,
+        time,
+        max: Timestamp(0),
+        bits,
+        strings: count,
+        first: Offset(first),
+        next: Offset(next),
+    }))
 }
 
 // The entry at a place within the rows.
@@ -235,55 +201,45 @@ fn row_entry_at(
     first_id: SeriesId,
     first_time: Timestamp,
     at: usize,
-) -> EntryAnswer
+) -> Result<Option<EntryView>, Refusal>
     requires { BaseIn body.now first_id first_time }
     ensures { result ≡ answer_entry (entry_at (rows_type labelled) body.now at) }
 {
-    match row_at(body, first_id, first_time, at) {
-        RowRead::Got {
-            id,
-            time,
-            bits,
-            next,
-        } => {
-            if labelled {
-                return exemplar_of(body, id, time, bits, next);
-            }
-            EntryAnswer::Found(EntryView {
-                tag: SAMPLES,
-                id,
-                time,
-                max: Timestamp(0),
-                bits,
-                strings: 0,
-                first: Offset(next),
-                next: Offset(next),
-            })
-        }
-        RowRead::Fault(why) => EntryAnswer::Refused(why),
+    let (id, time, bits, next) = row_at(body, first_id, first_time, at)?;
+    if labelled {
+        return exemplar_of(body, id, time, bits, next);
     }
+    Ok(Some(EntryView {
+        tag: SAMPLES,
+        id,
+        time,
+        max: Timestamp(0),
+        bits,
+        strings: 0,
+        first: Offset(next),
+        next: Offset(next),
+    }))
 }
 
 // The place after the entry at a place within the rows.
-pub fn row_entry_end(body: &[u8], labelled: bool, at: usize) -> Place
+pub fn row_entry_end(body: &[u8], labelled: bool, at: usize) -> Result<usize, Refusal>
     ensures { result ≡ end_of (entry_at (rows_type labelled) body.now at) }
 {
-    let labels = row_end(body, at);
+    let labels = row_end(body, at)?;
     if labelled {
         list_end(body, labels)
     } else {
-        labels
+        Ok(labels)
     }
 }
 
 // The same of a row without labels. A short one is told here, so that this has little code and is
 // inlined in a loop over samples.
-pub fn sample_end(body: &[u8], at: usize) -> Place
+pub fn sample_end(body: &[u8], at: usize) -> Result<usize, Refusal>
     ensures { result ≡ end_of (entry_at samples body.now at) }
 {
     if is_short_row(body, at) {
-        let next = at + SHORT_ROW;
-        return Place::At(next);
+        return Ok(at + SHORT_ROW);
     }
     row_entry_end(body, false, at)
 }
@@ -292,42 +248,42 @@ pub fn sample_end(body: &[u8], at: usize) -> Place
 
 // Rows begin after the first id and the first timestamp, or at the body's end if nothing follows
 // the tag (FORMAT 11.2).
-pub fn rows_begin(body: &[u8]) -> Place
+pub fn rows_begin(body: &[u8]) -> Result<usize, Refusal>
     ensures { result ≡ place_read (first_at true body.now) }
 {
     if body.len() == 1 {
-        return Place::At(1);
+        return Ok(1);
     }
     if body.len() < 9 {
-        return Place::Fault(Refusal::Short(Offset(1)));
+        return Err(Refusal::Short(Offset(1)));
     }
     if body.len() < ROWS {
-        return Place::Fault(Refusal::Short(Offset(9)));
+        return Err(Refusal::Short(Offset(9)));
     }
-    Place::At(ROWS)
+    Ok(ROWS)
 }
 
 // A body that ends before its rows (FORMAT 11.3). Only place 1 is good: it is the plain end if
 // nothing follows the tag, else Short at the first id or the first timestamp. An empty body has no
 // good place. The lengths are tested as in `rows_begin`: to take that one's answer apart was slower
 // (docs/DECISIONS.md, 34).
-fn no_row(body: &[u8], at: usize) -> EntryAnswer
+fn no_row(body: &[u8], at: usize) -> Result<Option<EntryView>, Refusal>
     requires { length body.now < 17 }
     ensures { (labelled : Bool) → result ≡ entry_known (known (rows_type labelled)) body.now at }
 {
     if at != 1 {
-        return EntryAnswer::Refused(Refusal::BadPlace);
+        return Err(Refusal::BadPlace);
     }
     if body.len() == 0 {
-        return EntryAnswer::Refused(Refusal::BadPlace);
+        return Err(Refusal::BadPlace);
     }
     if body.len() == 1 {
-        return EntryAnswer::End;
+        return Ok(None);
     }
     if body.len() < 9 {
-        return EntryAnswer::Refused(Refusal::Short(Offset(1)));
+        return Err(Refusal::Short(Offset(1)));
     }
-    EntryAnswer::Refused(Refusal::Short(Offset(9)))
+    Err(Refusal::Short(Offset(9)))
 }
 
 // Where the row of a place is: place 1 is the first row's.
@@ -339,7 +295,7 @@ fn row_place(at: usize) -> usize
 
 // The row at a place of a body, with its labels, or the plain end at the body's end. Once there are
 // 17 bytes, nothing tests again whether the first id and the first timestamp are there.
-pub fn row_entry(body: &[u8], labelled: bool, at: usize) -> EntryAnswer
+pub fn row_entry(body: &[u8], labelled: bool, at: usize) -> Result<Option<EntryView>, Refusal>
     ensures { result ≡ entry_known (known (rows_type labelled)) body.now at }
 {
     if body.len() < ROWS {
@@ -347,53 +303,52 @@ pub fn row_entry(body: &[u8], labelled: bool, at: usize) -> EntryAnswer
     }
     let from = row_place(at);
     if from < ROWS {
-        return EntryAnswer::Refused(Refusal::BadPlace);
+        return Err(Refusal::BadPlace);
     }
     if body.len() < from {
-        return EntryAnswer::Refused(Refusal::BadPlace);
+        return Err(Refusal::BadPlace);
     }
     if body.len() == from {
-        return EntryAnswer::End;
+        return Ok(None);
     }
     let base = base_of(body);
     row_entry_at(body, labelled, base.id, base.time, from)
 }
 
 // An entry at a place, or the plain end at the body's end.
-fn place_or_end(body: &[u8], at: usize) -> EntryPlace
-    ensures { result ≡ place_or_end body.now at }
+fn place_or_end(body: &[u8], at: usize) -> Option<Offset>
+    ensures { Ok result ≡ place_or_end body.now at }
 {
     if at == body.len() {
-        return EntryPlace::End;
+        None
+    } else {
+        Some(Offset(at))
     }
-    EntryPlace::At(Offset(at))
 }
 
 // Where the first entry of a body with rows is.
-fn first_place(body: &[u8]) -> EntryPlace
+fn first_place(body: &[u8]) -> Result<Option<Offset>, Refusal>
     ensures { result ≡ first_place body.now (first_at true body.now) }
 {
-    match rows_begin(body) {
-        Place::At(first) => place_or_end(body, first),
-        Place::Fault(why) => EntryPlace::Refused(why),
-    }
+    let first = rows_begin(body)?;
+    Ok(place_or_end(body, first))
 }
 
 // Where the entry of a place is (FORMAT 11.3), in a body of any type with rows.
-pub fn row_entry_place(body: &[u8], at: usize) -> EntryPlace
+pub fn row_entry_place(body: &[u8], at: usize) -> Result<Option<Offset>, Refusal>
     ensures { (k : BodyType) → has_rows k ≡ true → result ≡ entry_place k body.now at }
 {
     if at == 0 {
-        return EntryPlace::Refused(Refusal::BadPlace);
+        return Err(Refusal::BadPlace);
     }
     if body.len() < at {
-        return EntryPlace::Refused(Refusal::BadPlace);
+        return Err(Refusal::BadPlace);
     }
     if at == 1 {
         return first_place(body);
     }
     if at < ROWS {
-        return EntryPlace::Refused(Refusal::BadPlace);
+        return Err(Refusal::BadPlace);
     }
-    place_or_end(body, at)
+    Ok(place_or_end(body, at))
 }

@@ -8,8 +8,8 @@ use Rattle.body_format.specs.Fields.{Field, got, fault}
 use Rattle.body_format.specs.Entries.{Known, known, unknown, body_type_of, series, samples, tombstones, exemplars, metadata, histograms, Entry, entries}
 use Rattle.body_format.specs.Reading.{view}
 use Rattle.body_samples.specs.declared.Sample.{Sample}
-use Rattle.body_samples.specs.declared.FillAnswer.{FillAnswer}
-use Rattle.body_samples.specs.declared.FillAnswer.TheVariants.{Filled, Refused}
+use Rattle.body_samples.specs.Results.FillAnswer.{FillAnswer}
+use Rattle.body_samples.specs.Results.FillAnswer.{Filled, Refused}
 
 -- an entry's id, time and value, as reading the entry reports them
 abbrev pub sample_of : Entry → Sample

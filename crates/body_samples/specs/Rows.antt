@@ -11,8 +11,9 @@ use Rattle.std.proofs.Math.Dec.{leb}
 use Rattle.wal_types.specs.declared.Refusal.{Refusal}
 use Rattle.wal_types.specs.declared.Refusal.TheVariants.{WrongKind, UnknownType}
 use Rattle.wal_types.specs.Terms.{series_id, timestamp}
-use Rattle.body_format.specs.declared.EntryAnswer.{EntryAnswer}
-use Rattle.body_format.specs.declared.EntryAnswer.TheVariants.{Found, End, Refused}
+use Rattle.body_format.specs.declared.EntryView.{EntryView}
+use Rattle.body_format.specs.Results.EntryAnswer.{EntryAnswer}
+use Rattle.body_format.specs.Results.EntryAnswer.{Found, End, Refused}
 use Rattle.body_format.specs.Fields.{Field, got, fault}
 use Rattle.body_format.specs.Entries.{Known, known, unknown, body_type_of, series, samples, tombstones, exemplars, metadata, histograms, Entry, series_entry, sample_entry, tombstone_entry, exemplar_entry, metadata_entry, histogram_entry, entries}
 use Rattle.body_format.specs.Reading.{view, read_entry}
@@ -28,8 +29,12 @@ use Rattle.body_samples.specs.Filling.{sample_of, samples_known, samples_in, lis
 abbrev pub no_row : ℕ → Row
 no_row p = record { sample = record { id = series_id 0; time = timestamp (pos 0); bits = 0 }; next = p }
 
+-- what the list holds of an entry that was read
+abbrev pub sample_seen : EntryView → Sample
+sample_seen v = record { id = v.id; time = v.time; bits = v.bits }
+
 abbrev pub row_of : EntryAnswer → ℕ → Row
-row_of (Found v) p = record { sample = record { id = v.id; time = v.time; bits = v.bits }; next = v.next.0 }
+row_of (Found v) p = record { sample = sample_seen v; next = v.next.0 }
 row_of End p = no_row p
 row_of (Refused why) p = no_row p
 

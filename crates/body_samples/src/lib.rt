@@ -5,12 +5,11 @@
 ghost use Rattle.std.specs.Prelude.{◌≡◌, ◌≤◌, length};
 ghost use Rattle.body_format.specs.Reading.{check_fields};
 ghost use Rattle.body_samples.specs.Filling.{samples_in, fill_answer, fill_number, fill_value, list_after};
-ghost use Rattle.body_samples.specs.Rows.{no_row, row_of, row_at, fill_with, fill_count};
+ghost use Rattle.body_samples.specs.Rows.{no_row, sample_seen, row_at, fill_with};
 
-use body_format::{
-    CheckAnswer, EXEMPLARS, EntryAnswer, FLOAT_HISTOGRAMS, HISTOGRAMS, METADATA, SAMPLES, SERIES,
-    TOMBSTONES,
-};
+use body_format::EntryView;
+use body_reader::samples::check_samples;
+use body_reader::tags::{BodyLayout, body_type};
 use wal_types::{Offset, Refusal, SeriesId, Timestamp};
 
 // An id, a time and the value's 64 bits.
@@ -21,18 +20,16 @@ pub struct Sample {
     pub bits: u64,
 }
 
-// What filling a list answers: the number of samples now at its front, or the refusal.
-#[derive(Clone, Copy)]
-pub enum FillAnswer {
-    Filled(usize),
-    Refused(Refusal),
-}
+impl From<EntryView> for Sample {
+    ghost from_gives = { λ view result. result ≡ sample_seen view };
 
-// An answer, and the number of rows to be filled: none if it is a refusal.
-#[derive(Clone, Copy)]
-struct Plan {
-    answer: FillAnswer,
-    count: usize,
+    fn from(view: EntryView) -> Sample {
+        Sample {
+            id: view.id,
+            time: view.time,
+            bits: view.bits,
+        }
+    }
 }
 
 // A row's sample, and the place after the row.
@@ -44,125 +41,80 @@ struct Row {
 
 // Fills the front of the list with the samples of a body, in order; the rest is unchanged. A
 // refusal changes nothing.
-pub fn fill(body: &[u8], list: &mut [Sample]) -> FillAnswer
+pub fn fill(body: &[u8], list: &mut [Sample]) -> Result<usize, Refusal>
     ensures { (result ≡ fill_answer (samples_in body.now) (length list.old))
         × (list.new ≡ list_after (samples_in body.now) list.old) }
 {
-    let plan = plan_fill(body, list.len());
-    fill_rows(body, plan.count, list);
-    plan.answer
+    let count = plan_fill(body, list.len())?;
+    fill_rows(body, &mut list[..count]);
+    Ok(count)
 }
 
 // The status number of an answer (FORMAT 12.1); 0 where the list is filled.
-pub fn fill_number(answer: FillAnswer) -> u32
+pub fn fill_number(answer: Result<usize, Refusal>) -> u32
     ensures { result ≡ fill_number answer }
 {
     match answer {
-        FillAnswer::Filled(_) => 0,
-        FillAnswer::Refused(why) => wal_types::number(why),
+        Ok(_) => 0,
+        Err(why) => wal_types::number(why),
     }
 }
 
 // The value of an answer: the number of samples filled, or the refusal's place.
-pub fn fill_value(answer: FillAnswer) -> usize
+pub fn fill_value(answer: Result<usize, Refusal>) -> usize
     ensures { result ≡ fill_value answer }
 {
     match answer {
-        FillAnswer::Filled(count) => count,
-        FillAnswer::Refused(why) => {
-            let place = wal_types::place(why);
-            place.0
-        }
+        Ok(count) => count,
+        Err(why) => wal_types::place(why).0,
     }
 }
 
 // The number of samples that a body holds, or the refusal.
-fn count_samples(body: &[u8]) -> CheckAnswer
+#[tactic(auto, using(crate::proofs::Counting::no_samples))]
+fn count_samples(body: &[u8]) -> Result<usize, Refusal>
     ensures { result ≡ check_fields (samples_in body.now) }
 {
-    if body.len() == 0 {
-        return CheckAnswer::Refused(Refusal::EmptyBody);
-    }
-    let tag = body[0];
-    match tag {
-        SAMPLES => body_reader::check(body),
-        SERIES => CheckAnswer::Refused(Refusal::WrongKind),
-        TOMBSTONES => CheckAnswer::Refused(Refusal::WrongKind),
-        EXEMPLARS => CheckAnswer::Refused(Refusal::WrongKind),
-        METADATA => CheckAnswer::Refused(Refusal::WrongKind),
-        HISTOGRAMS => CheckAnswer::Refused(Refusal::WrongKind),
-        FLOAT_HISTOGRAMS => CheckAnswer::Refused(Refusal::WrongKind),
-        _ => CheckAnswer::Refused(Refusal::UnknownType),
-    }
+    let layout = body_type(body)?;
+    let BodyLayout::Rows { labelled: false } = layout else {
+        return Err(Refusal::WrongKind);
+    };
+    check_samples(body)
 }
 
-// The answer, and the number of rows to be filled, for a list of `room` samples.
-fn plan_fill(body: &[u8], room: usize) -> Plan
-    ensures { (result.answer ≡ fill_answer (samples_in body.now) room)
-        × (result.count ≡ fill_count (samples_in body.now) room) }
+// The number of rows to be filled, for a list of `room` samples; or the refusal.
+fn plan_fill(body: &[u8], room: usize) -> Result<usize, Refusal>
+    ensures { result ≡ fill_answer (samples_in body.now) room }
 {
-    match count_samples(body) {
-        CheckAnswer::Entries(count) => {
-            if count <= room {
-                Plan {
-                    answer: FillAnswer::Filled(count),
-                    count,
-                }
-            } else {
-                Plan {
-                    answer: FillAnswer::Refused(Refusal::ListFull),
-                    count: 0,
-                }
-            }
-        }
-        CheckAnswer::Refused(why) => Plan {
-            answer: FillAnswer::Refused(why),
-            count: 0,
-        },
+    let count = count_samples(body)?;
+    if room < count {
+        return Err(Refusal::ListFull);
     }
+    Ok(count)
 }
 
-// Reads the first `count` rows into the front of the list.
-fn fill_rows(body: &[u8], count: usize, list: &mut [Sample])
-    requires { count ≤ length list.old }
-    ensures { list.new ≡ fill_with count 1 body.now 0 list.old }
+// Reads as many rows as the list has places.
+fn fill_rows(body: &[u8], list: &mut [Sample])
+    ensures { list.new ≡ fill_with (length list.old) 1 body.now 0 list.old }
 {
     let mut place: usize = 1;
-    let mut i: usize = 0;
-    while i < count {
+    for sample in list.iter_mut() {
         let row = row_at(body, place);
-        list[i] = row.sample;
+        *sample = row.sample;
         place = row.next;
-        i += 1;
     }
 }
 
-// The row at a place.
+// The row at a place. If there is none, the sample is all zeros and the place stays.
 fn row_at(body: &[u8], place: usize) -> Row
     ensures { result ≡ row_at body.now place }
 {
-    let answer = body_reader::entry_at(body, Offset(place));
-    row_of(answer, place)
-}
-
-// The row of an entry that was read at `place`. If there was none, the sample is all zeros and the
-// place stays.
-fn row_of(answer: EntryAnswer, place: usize) -> Row
-    ensures { result ≡ row_of answer place }
-{
-    match answer {
-        EntryAnswer::Found(view) => {
-            let id = view.id;
-            let time = view.time;
-            let bits = view.bits;
-            let next = view.next;
-            Row {
-                sample: Sample { id, time, bits },
-                next: next.0,
-            }
-        }
-        EntryAnswer::End => no_row(place),
-        EntryAnswer::Refused(_) => no_row(place),
+    match body_reader::entry_at(body, Offset(place)) {
+        Ok(Some(view)) => Row {
+            sample: Sample::from(view),
+            next: view.next.0,
+        },
+        Ok(None) | Err(_) => no_row(place),
     }
 }
 

@@ -1,13 +1,7 @@
 -- Laws of a part of a list that is stored piece by piece.
 -- Assumes nothing.
-use mathlib.Core.Path.{◌≡◌, refl, sym, ap, ◌∙◌}
-use mathlib.Core.List.{List, [], ◌∷◌}
-use Prim.Native.Nat.{ℕ, zero, suc, ◌+◌, ◌-◌, ◌≤◌, ◌<◌}
-use native.Mathlib.Omega.{arith}
-use native.Mathlib.Nat.{add-zero}
-use native.Mathlib.Numerals.{add-one}
-use lib.ListN.{length, get_or, take, drop, set, length-drop, length-set}
-use lib.Seq.{sets, drop-cons, drop-drop, length-take-le, set_comm, set-set, take-add}
+use Rattle.std.proofs.Common.{◌≡◌, refl, sym, ap, ◌∙◌, List, [], ◌∷◌, ℕ, zero, suc, ◌+◌, ◌-◌, ◌≤◌, ◌<◌, arith, length, get_or, take, drop, set, length-drop, drop-cons, drop-drop, length-take-le, set-set, take-add}
+use Rattle.std.proofs.Math.Seq.{sets, set_comm}
 use Rattle.byte_copy.specs.CopiedLaws.{sets-append}
 
 -- ---- a list stored over a front of it
@@ -27,15 +21,6 @@ over-front (x ∷ y) u j (suc p) (suc n) h =
     ap (λ (w : List ℕ). sets w (suc j) (take n y)) e ∙ over-front y (set u j x) (suc j) p n (omega arith)
 
 -- ---- a part stored
-
--- n + k, and n itself for no k, as the code has it
-abbrev pub place : ℕ → ℕ → ℕ
-place n zero = n
-place n (suc k) = n + suc k
-
-place-add : (n k : ℕ) → place n k ≡ n + k
-place-add n zero = sym (add-zero n)
-place-add n (suc k) = refl
 
 module _ (s : List ℕ) (from : ℕ) (t : List ℕ) (at : ℕ) where
   -- t with the first i bytes stored
@@ -62,19 +47,3 @@ module _ (s : List ℕ) (from : ℕ) (t : List ℕ) (at : ℕ) where
       let en : i + j ≡ n = omega arith in
       let f : u ≡ sets (put i) (at + i) (take (m - i) y) = e ∙ rw em at (sym (put_more i (m - i) (omega arith) refl)) in
       ap (λ (v : List ℕ). sets v (at + i) (take j y)) f ∙ over-front y (put i) (at + i) (m - i) j (omega arith) ∙ rw en at (put_more i j (omega arith) refl)
-
-  -- k stores, one by one
-  abbrev pub stores : ℕ → List ℕ
-  stores zero = t
-  stores (suc k) = set (stores k) (place at k) (get_or s (place from k) 0)
-
-  pub stores_put : (k : ℕ) → from + k ≤ length s → stores k ≡ put k
-  stores_put zero h = refl
-  stores_put (suc k) h = rw (place-add at k, place-add from k, ← add-one k) (put_byte k (omega arith) (stores_put k (omega arith)))
-
-  pub stores_length : (k : ℕ) → length (stores k) ≡ length t
-  stores_length zero = refl
-  stores_length (suc k) = length-set (stores k) (place at k) (get_or s (place from k) 0) ∙ stores_length k
-
-  pub stores_below : (k : ℕ) → at + k < length t → place at k < length (stores k)
-  stores_below k h = rw (place-add at k, stores_length k) h

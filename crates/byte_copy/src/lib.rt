@@ -6,24 +6,20 @@ ghost use Rattle.std.specs.Prelude.{◌≡◌, ◌+◌, ◌-◌, ◌*◌, ◌/�
 ghost use Rattle.std.proofs.lemmas.List.Edits.{sets};
 ghost use Rattle.byte_copy.specs.Copied.{copied};
 
-// The bytes that `copy16` copies at once.
+// The bytes of a chunk, and of two.
 const CHUNK: usize = 16;
+
+const PAIR: usize = 2 * CHUNK;
 
 // Copies `count` bytes of `source`, from `from` on, to `to` at `at`. Where either slice is too
 // short for that, nothing changes.
 pub fn copy(source: &[u8], from: usize, count: usize, to: &mut [u8], at: usize)
     ensures { to.new ≡ copied source.now from count to.old at }
 {
-    if source.len() < from {
+    if source.len() < from || source.len() - from < count {
         return;
     }
-    if source.len() - from < count {
-        return;
-    }
-    if to.len() < at {
-        return;
-    }
-    if to.len() - at < count {
+    if to.len() < at || to.len() - at < count {
         return;
     }
     if count < CHUNK {
@@ -38,10 +34,8 @@ fn copy_bytes(source: &[u8], from: usize, count: usize, to: &mut [u8], at: usize
     requires { (from + count ≤ length source.now) × (at + count ≤ length to.old) }
     ensures { to.new ≡ sets to.old at (take count (drop from source.now)) }
 {
-    let mut i = 0;
-    while i < count {
+    for i in 0..count {
         to[at + i] = source[from + i];
-        i += 1;
     }
 }
 
@@ -52,9 +46,7 @@ fn copy_long(source: &[u8], from: usize, count: usize, to: &mut [u8], at: usize)
 {
     copy_front(source, from, count, to, at);
     let front = count - CHUNK;
-    let last_from = from + front;
-    let last_at = at + front;
-    copy16(source, last_from, to, last_at);
+    copy_array::<CHUNK>(source, from + front, to, at + front);
 }
 
 // Enough of the front that the last chunk completes it. Up to three chunks go without a loop: to
@@ -66,13 +58,11 @@ fn copy_front(source: &[u8], from: usize, count: usize, to: &mut [u8], at: usize
         (take count (drop from source.now)) }
 {
     if count <= 2 * CHUNK {
-        copy16(source, from, to, at);
+        copy_array::<CHUNK>(source, from, to, at);
+    } else if count <= 3 * CHUNK {
+        copy_array::<PAIR>(source, from, to, at);
     } else {
-        if count <= 3 * CHUNK {
-            copy32(source, from, to, at);
-        } else {
-            copy_aligned(source, from, count, to, at);
-        }
+        copy_aligned(source, from, count, to, at);
     }
 }
 
@@ -83,15 +73,13 @@ fn copy_aligned(source: &[u8], from: usize, count: usize, to: &mut [u8], at: usi
     ensures { to.new ≡ sets to.old at
         (take (16 - at % 16 + (count - (16 - at % 16)) / 16 * 16) (drop from source.now)) }
 {
-    copy16(source, from, to, at);
+    copy_array::<CHUNK>(source, from, to, at);
     let skip = CHUNK - at % CHUNK;
-    let next_from = from + skip;
-    let next_at = at + skip;
-    let left = count - skip;
-    copy_chunks(source, next_from, left, to, next_at);
+    copy_chunks(source, from + skip, count - skip, to, at + skip);
 }
 
-// The whole chunks of `count` bytes.
+// The whole chunks of `count` bytes. A `while`: for a loop over a range of chunks the compiler
+// saves more registers, which costs each call six instructions, also where it copies no chunk.
 fn copy_chunks(source: &[u8], from: usize, count: usize, to: &mut [u8], at: usize)
     requires { (from + count ≤ length source.now) × (at + count ≤ length to.old) }
     ensures { to.new ≡ sets to.old at
@@ -99,60 +87,18 @@ fn copy_chunks(source: &[u8], from: usize, count: usize, to: &mut [u8], at: usiz
 {
     let mut i = 0;
     while CHUNK <= count - i {
-        let next_from = from + i;
-        let next_at = at + i;
-        copy16(source, next_from, to, next_at);
+        copy_array::<CHUNK>(source, from + i, to, at + i);
         i += CHUNK;
     }
 }
 
-// Two chunks.
-fn copy32(source: &[u8], from: usize, to: &mut [u8], at: usize)
-    requires { (from + 32 ≤ length source.now) × (at + 32 ≤ length to.old) }
-    ensures { to.new ≡ sets to.old at (take 32 (drop from source.now)) }
+// Some bytes, as many as the type says. All of them are loaded before one is stored: the compiler
+// then makes wide loads and wide stores of them, though it cannot know that the slices do not
+// overlap.
+fn copy_array<const N: usize>(source: &[u8], from: usize, to: &mut [u8], at: usize)
+    requires { (from + N ≤ length source.now) × (at + N ≤ length to.old) }
+    ensures { to.new ≡ sets to.old at (take N (drop from source.now)) }
 {
-    copy16(source, from, to, at);
-    let next_from = from + CHUNK;
-    let next_at = at + CHUNK;
-    copy16(source, next_from, to, next_at);
-}
-
-// One chunk. All loads come before all stores: the compiler then makes one wide load and one wide
-// store of them, though it cannot know that the slices do not overlap.
-fn copy16(source: &[u8], from: usize, to: &mut [u8], at: usize)
-    requires { (from + 16 ≤ length source.now) × (at + 16 ≤ length to.old) }
-    ensures { to.new ≡ sets to.old at (take 16 (drop from source.now)) }
-{
-    let a0 = source[from];
-    let a1 = source[from + 1];
-    let a2 = source[from + 2];
-    let a3 = source[from + 3];
-    let a4 = source[from + 4];
-    let a5 = source[from + 5];
-    let a6 = source[from + 6];
-    let a7 = source[from + 7];
-    let a8 = source[from + 8];
-    let a9 = source[from + 9];
-    let a10 = source[from + 10];
-    let a11 = source[from + 11];
-    let a12 = source[from + 12];
-    let a13 = source[from + 13];
-    let a14 = source[from + 14];
-    let a15 = source[from + 15];
-    to[at] = a0;
-    to[at + 1] = a1;
-    to[at + 2] = a2;
-    to[at + 3] = a3;
-    to[at + 4] = a4;
-    to[at + 5] = a5;
-    to[at + 6] = a6;
-    to[at + 7] = a7;
-    to[at + 8] = a8;
-    to[at + 9] = a9;
-    to[at + 10] = a10;
-    to[at + 11] = a11;
-    to[at + 12] = a12;
-    to[at + 13] = a13;
-    to[at + 14] = a14;
-    to[at + 15] = a15;
+    let bytes: [u8; N] = *source[from..from + N].first_chunk().unwrap();
+    to[at..at + N].copy_from_slice(&bytes);
 }

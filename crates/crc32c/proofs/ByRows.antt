@@ -1,13 +1,8 @@
 -- Laws of the plain sum: a byte as the index of a row, and a slice in blocks of eight bytes.
-use mathlib.Core.Path.{◌≡◌, refl, sym, ap, ap₂, ◌∙◌, subst}
-use mathlib.Core.List.{List, [], ◌∷◌, ◌++◌}
-use Prim.Native.Nat.{ℕ, zero, suc, ◌+◌, ◌*◌, ◌-◌, ◌/◌, ◌%◌, ◌^◌, ◌<◌, ◌≤◌}
-use native.Mathlib.Nat.{add-zero, mul-mod_left, mod-eq_of_lt, div-eq_of_lt}
-use native.Mathlib.Omega.{arith}
+use Rattle.std.proofs.Common.{◌≡◌, refl, sym, ap, ap₂, ◌∙◌, subst, List, ℕ, suc, ◌+◌, ◌*◌, ◌-◌, ◌/◌, ◌%◌, ◌^◌, ◌<◌, ◌≤◌, add-zero, mod-eq_of_lt, arith, length, get_or, take, drop, length-drop, drop_of_length-le, drop-cons, get_or-drop, take-add, take_all, length-take-le}
+use native.Mathlib.Nat.{mul-mod_left, div-eq_of_lt}
 use lib.Bits.{bit_xor, xor_zero_r, xor_comm, xor_shr, xor_mod, xor_shifted}
 use lib.Pow.{shr_le, shr-shr, shl-shr, mod-pow-add, low}
-use lib.ListN.{length, get_or, take, drop, length-drop, drop_of_length-le}
-use lib.Seq.{drop-cons, get_or-drop, take-add, take_all, length-take-le}
 use Rattle.crc32c_format.specs.Crc.{bit_steps, register}
 use Rattle.crc32c_format.specs.Bytes.{little_endian}
 use Rattle.crc32c_format.specs.Method.Xor.{xor_back}

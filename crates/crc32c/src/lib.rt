@@ -12,7 +12,6 @@ ghost use Rattle.crc32c_format.specs.Method.Fold.{onto290, onto130, taps, Folded
 
 use crc32c_rows_first::{row0, row1, row2, row3};
 use crc32c_rows_later::{row4, row5, row6, row7};
-use numbers::{smaller, wide64};
 
 // What a caller without a table passes: too short to be used.
 pub const NO_TABLE: [u32; 1] = [0];
@@ -22,25 +21,28 @@ const LONG: usize = 512;
 
 // ---- bytes as a number, the first lowest
 
+// By halves: over `from_le_bytes` a block takes one instruction more by the table, since the
+// compiler then loads all four bytes that it looks up, and splits them again.
+
 fn load2(s: &[u8], at: usize) -> u16
     requires { at + 2 ≤ length s.now }
     ensures { result ≡ little_endian (take 2 (drop at s.now)) }
 {
-    (s[at] as u16) + (s[at + 1] as u16) * 0x100
+    u16::from(s[at]) + u16::from(s[at + 1]) * 0x100
 }
 
 fn load4(s: &[u8], at: usize) -> u32
     requires { at + 4 ≤ length s.now }
     ensures { result ≡ little_endian (take 4 (drop at s.now)) }
 {
-    (load2(s, at) as u32) + (load2(s, at + 2) as u32) * 0x1_0000
+    u32::from(load2(s, at)) + u32::from(load2(s, at + 2)) * 0x1_0000
 }
 
 fn load8(s: &[u8], at: usize) -> u64
     requires { at + 8 ≤ length s.now }
     ensures { result ≡ little_endian (take 8 (drop at s.now)) }
 {
-    (load4(s, at) as u64) + (load4(s, at + 4) as u64) * 0x1_0000_0000
+    u64::from(load4(s, at)) + u64::from(load4(s, at + 4)) * 0x1_0000_0000
 }
 
 // ---- by the rows
@@ -127,11 +129,9 @@ fn load_few(s: &[u8]) -> u64
     requires { length s.now < 8 }
     ensures { result ≡ little_endian s.now }
 {
-    let mut i = s.len();
     let mut x: u64 = 0;
-    while 0 < i {
-        i -= 1;
-        x = x * 256 + wide64(s[i]);
+    for i in (0..s.len()).rev() {
+        x = x * 256 + u64::from(s[i]);
     }
     x
 }
@@ -158,8 +158,8 @@ fn register_by_rows(state: u32, s: &[u8]) -> u32
         return state;
     }
     let more = (n - 1) % 8;
-    let first = (load_first(s) ^ (state as u64)) << ((56 - 8 * more) as u64);
-    let rest = ((state as u64) >> ((8 * more) as u64) >> 8) as u32;
+    let first = (load_first(s) ^ u64::from(state)) << (56 - 8 * more);
+    let rest = (u64::from(state) >> (8 * more) >> 8) as u32;
     blocks(first, rest, s, more + 1)
 }
 
@@ -182,10 +182,8 @@ fn fold(y: &mut [u8], m: &[u8], n: usize)
     requires { (n ≤ length m.now) × (n + 290 ≤ length y.old) }
     ensures { Folded onto290 m.now y.old y.new n }
 {
-    let mut i = 0;
-    while i < n {
+    for i in 0..n {
         y[i + 290] = m[i] ^ (y[i + 136] ^ y[i + 113] ^ y[i + 107] ^ y[i + 32] ^ y[i]);
-        i += 1;
     }
 }
 
@@ -194,10 +192,8 @@ fn slide(y: &mut [u8], n: usize)
     requires { n + 290 ≤ length y.old }
     ensures { Slid onto290 y.old y.new n }
 {
-    let mut i = 0;
-    while i < 290 {
+    for i in 0..290 {
         y[i] = y[i + n];
-        i += 1;
     }
 }
 
@@ -206,11 +202,7 @@ fn clear(y: &mut [u8])
     requires { 426 ≤ length y.old }
     ensures { Cleared onto290 y.old y.new }
 {
-    let mut i = 290;
-    while i < 426 {
-        y[i] = 0;
-        i += 1;
-    }
+    y[290..426].fill(0);
 }
 
 // The last 290 bytes of the message, with what the window xors into them.
@@ -218,10 +210,8 @@ fn rest(r: &mut [u8], y: &[u8], m: &[u8])
     requires { (length r.old ≡ 290) × (length m.now ≡ 290) × (426 ≤ length y.now) }
     ensures { Rest onto290 m.now y.now r.new }
 {
-    let mut i = 0;
-    while i < 290 {
+    for i in 0..290 {
         r[i] = m[i] ^ (y[i + 136] ^ y[i + 113] ^ y[i + 107] ^ y[i + 32] ^ y[i]);
-        i += 1;
     }
 }
 
@@ -242,10 +232,8 @@ fn fold_again(y: &mut [u8], m: &[u8], n: usize)
     requires { (n ≤ length m.now) × (n + 130 ≤ length y.old) }
     ensures { Folded onto130 m.now y.old y.new n }
 {
-    let mut i = 0;
-    while i < n {
+    for i in 0..n {
         y[i + 130] = m[i] ^ taps130(y, i);
-        i += 1;
     }
 }
 
@@ -254,10 +242,8 @@ fn rest_again(r: &mut [u8], y: &[u8], m: &[u8])
     requires { (length r.old ≡ 130) × (length m.now ≡ 130) × (194 ≤ length y.now) }
     ensures { Rest onto130 m.now y.now r.new }
 {
-    let mut i = 0;
-    while i < 130 {
+    for i in 0..130 {
         r[i] = m[i] ^ taps130(y, i);
-        i += 1;
     }
 }
 
@@ -291,7 +277,7 @@ fn long(state: u32, m: &[u8]) -> u32
     let last = m.len() - 290;
     let mut i = 0;
     while i < last {
-        let n = smaller(last - i, 2048);
+        let n = (last - i).min(2048);
         fold(&mut y, &m[i..], n);
         slide(&mut y, n);
         i += n;
@@ -340,8 +326,8 @@ fn look_up2(t: &[u32], k: usize, x: u16) -> u32
     requires { (2048 ≤ length t.now) × (k < 7) }
     ensures { result ≡ look_up2 t.now k x }
 {
-    let i = (k + 1) * 256 + ((x % 256) as usize);
-    let j = k * 256 + ((x / 256) as usize);
+    let i = (k + 1) * 256 + usize::from(x % 256);
+    let j = k * 256 + usize::from(x / 256);
     t[i] ^ t[j]
 }
 
@@ -358,16 +344,9 @@ fn table_byte(t: &[u32], state: u32, b: u8) -> u32
     requires { 2048 ≤ length t.now }
     ensures { result ≡ table_step1 t.now state (b ∷ []) }
 {
-    let x = state ^ (b as u32);
+    let x = state ^ u32::from(b);
     let i = (x % 256) as usize;
     t[i] ^ (x / 256)
-}
-
-fn table_step1(t: &[u32], state: u32, s: &[u8], at: usize) -> u32
-    requires { (2048 ≤ length t.now) × (at < length s.now) }
-    ensures { result ≡ table_step1 t.now state (drop at s.now) }
-{
-    table_byte(t, state, s[at])
 }
 
 fn table_step4(t: &[u32], state: u32, s: &[u8], at: usize) -> u32
@@ -418,12 +397,10 @@ fn table_singles(t: &[u32], state: u32, s: &[u8], at: usize) -> u32
     ensures { result ≡ steps 1 (table_step1 t.now) (length s.now - at) state
         (drop at s.now) }
 {
-    let n = s.len();
     let mut c = state;
-    let mut i = at;
-    while i < n {
-        c = table_step1(t, c, s, i);
-        i += 1;
+    // By index: over the slice the compiler unrolls the loop, which takes longer for so few bytes.
+    for i in at..s.len() {
+        c = table_byte(t, c, s[i]);
     }
     c
 }

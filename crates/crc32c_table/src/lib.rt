@@ -16,10 +16,8 @@ fn byte_steps(x: u32) -> u32
     ensures { result ≡ bit_steps 8 x }
 {
     let mut c = x;
-    let mut i: usize = 0;
-    while i < 8 {
+    for _ in 0..8u32 {
         c = bit_step(c);
-        i += 1;
     }
     c
 }
@@ -29,10 +27,8 @@ fn fill_first_row(table: &mut [u32])
     requires { length table.old ≡ 2048 }
     ensures { Filled table.new 256 }
 {
-    let mut i = 0;
-    while i < 256 {
+    for i in 0..256 {
         table[i] = byte_steps(i as u32);
-        i += 1;
     }
 }
 
@@ -41,12 +37,10 @@ fn fill_other_rows(table: &mut [u32])
     requires { Filled table.old 256 }
     ensures { Filled table.new 2048 }
 {
-    let mut i = 256;
-    while i < 2048 {
+    for i in 256..2048 {
         let above = table[i - 256];
         let low = (above % 256) as usize;
         table[i] = table[low] ^ (above / 256);
-        i += 1;
     }
 }
 

@@ -3,16 +3,16 @@
 use Rattle.std.specs.Prelude.{List, [], ◌∷◌, ℕ}
 use Rattle.wal_types.specs.Refusals.{number_of, place_of}
 use Rattle.wal_types.specs.declared.Refusal.TheVariants.{BadName}
-use Rattle.wal_types.specs.declared.VersionFound.{VersionFound}
-use Rattle.wal_types.specs.declared.VersionFound.TheVariants.{Known, Unknown}
+use Rattle.wal_types.specs.Results.VersionFound.{VersionFound}
+use Rattle.wal_types.specs.Results.VersionFound.{Known, Unknown}
 use Rattle.segment_format.specs.Sums.{version_sum}
-use Rattle.checkpoint_format.specs.declared.CheckpointAnswer.{CheckpointAnswer}
-use Rattle.checkpoint_format.specs.declared.CheckpointAnswer.TheVariants.{Done, Unread, Stopped}
+use Rattle.checkpoint_format.specs.Results.CheckpointAnswer.{CheckpointAnswer}
+use Rattle.checkpoint_format.specs.Results.CheckpointAnswer.{Done, Unread, Stopped}
 use Rattle.checkpoint_format.specs.Calls.{Checkpointer, checkpointer}
 use Rattle.log_checkpoint.specs.Clearing.{cleared_in}
 
--- a checkpoint by the version of a number: where there is none it is BadName, before everything else;
--- nothing is written, and the work buffers are as after any other answer (FORMAT 1.4, 24.8)
+-- a checkpoint by the version of a number: where there is none it is BadName, before everything
+-- else; nothing is written, and the work buffers are as after any other answer (FORMAT 1.4, 24.8)
 abbrev pub checkpointer_for : VersionFound → Checkpointer
 checkpointer_for (Known v) source ids since target work body = checkpointer (version_sum v) source ids since target work body
 checkpointer_for Unknown source ids since target work body = record {

@@ -1,5 +1,5 @@
-// The C call that writes a checkpoint. include/depot_wal.h says the same for C. tools/archive joins it
-// with the other calls.
+// The C call that writes a checkpoint. include/depot_wal.h says the same for C. tools/archive joins
+// it with the other calls.
 #![tactic(auto)]
 
 ghost use Rattle.std.specs.Prelude.{◌≡◌};
@@ -7,26 +7,26 @@ ghost use Rattle.wal_types.specs.Versions.{version_of};
 ghost use Rattle.log_checkpoint.specs.Passes.{checkpointed};
 ghost use Rattle.depot_wal_checkpoint.specs.Results.{checkpointer_for, checkpoint_number, checkpoint_out};
 
-use checkpoint_format::{CheckpointAnswer, Checkpointed};
-use wal_types::{Offset, Refusal, Timestamp, VersionFound, version_of};
+use checkpoint_format::Checkpointed;
+use log_format::LogError;
+use wal_types::{Offset, Refusal, Timestamp, version_of};
 
 // A result as numbers: what the call returns, and what it leaves in `out`.
 fn checkpoint_result(made: Checkpointed, out: &mut [u64; 2]) -> u32
     ensures { (result ≡ checkpoint_number made.answer) × (out.new ≡ checkpoint_out made.answer made.next.0) }
 {
     let next = made.next.0 as u64;
-    let answer = made.answer;
-    match answer {
-        CheckpointAnswer::Done => {
+    match made.answer {
+        Ok(()) => {
             *out = [next, 0];
             0
         }
-        CheckpointAnswer::Unread(why) => {
+        Err(LogError::Unread(why)) => {
             let at = wal_types::place(why);
             *out = [next, at.0 as u64];
             wal_types::number(why)
         }
-        CheckpointAnswer::Stopped { why, start } => {
+        Err(LogError::Stopped { why, start }) => {
             *out = [next, start.0 as u64];
             wal_types::number(why)
         }
@@ -55,19 +55,14 @@ fn checkpoint_as(
         × (body.new ≡ (checkpointer_for (version_of version) source.now ids.now since.0 target.old
         work.old body.old).body) }
 {
-    let found = version_of(version);
-    match found {
-        VersionFound::Known(known) => {
-            log_checkpoint::checkpoint(known, source, ids, since, target, work, body)
-        }
-        VersionFound::Unknown => {
-            log_checkpoint::clear_full(work, body);
-            Checkpointed {
-                answer: CheckpointAnswer::Unread(Refusal::BadName),
-                next: Offset(0),
-            }
-        }
-    }
+    let Some(version) = version_of(version) else {
+        log_checkpoint::clear_full(work, body);
+        return Checkpointed {
+            answer: Err(LogError::Unread(Refusal::BadName)),
+            next: Offset(0),
+        };
+    };
+    log_checkpoint::checkpoint(version, source, ids, since, target, work, body)
 }
 
 // Writes to the target what is kept of the source, a segment of the version (FORMAT 24).

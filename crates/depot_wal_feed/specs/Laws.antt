@@ -1,44 +1,24 @@
--- Laws of the numbers of a state: the tests one by one, and that what is stored reads back.
+-- Laws of the numbers of a state: whether they are one, and that what is stored reads back.
 -- Assumes nothing.
-use Rattle.std.specs.Prelude.{◌≡◌, true, false, List, [], ◌∷◌, ℕ, ◌/◌, ◌≤◌, ◌<◌, get_or, set, eqb}
-use Rattle.std.proofs.Common.{sym, ◌∙◌, arith}
+use Rattle.std.specs.Prelude.{◌≡◌, true, false, List, ℕ, ◌/◌, ◌≤◌, ◌<◌, get_or, set, eqb}
+use Rattle.std.proofs.Common.{sym, ◌∙◌, arith, le-leb, le-ltb, lt-ltb, eq-eqb, ne_eqb}
 use Rattle.std.proofs.Math.Path.{ap}
-use borrow.Author.Tests.{le-leb, lt-leb, le-ltb, lt-ltb, eq-eqb, ne_eqb}
+use Rattle.std.proofs.lemmas.Bool.{lt-leb}
 use Rattle.std.proofs.lemmas.List.{set-get_or}
 use Rattle.wal_types.specs.declared.Version.{Version}
 use Rattle.wal_types.specs.declared.Refusal.TheVariants.{BadPlace}
 use Rattle.feed_format.specs.declared.GoodFeed.{GoodFeed}
 use Rattle.feed_format.specs.declared.GoodFed.{GoodFed}
 use Rattle.feed_format.specs.declared.GoodFeedRead.{GoodFeedRead}
-use Rattle.feed_format.specs.declared.PageAnswer.TheVariants.{Refused as PageRefused}
-use Rattle.feed_format.specs.declared.FeedAnswer.TheVariants.{Refused}
+use Rattle.feed_format.specs.Results.PageAnswer.{Refused as PageRefused}
+use Rattle.feed_format.specs.Results.FeedAnswer.{Refused}
 use Rattle.feed_format.specs.Pairing.{good_feed_on, GoodGot, good_read_on}
 use Rattle.feed_format.proofs.Laws.Pairs.{GoodHands, GoodSame, good-same}
 use Rattle.depot_wal_feed.specs.Numbers.{stored, stored_place, pair_of, version_in, state_of, marked, known, page_out, read_code, read_out, page_call, feed_page, read_call, feed_read}
 
--- ---- whether numbers are a state: their marks, then their version
+-- ---- whether numbers are a state, by their version
 
 module _ (s : List ℕ) where
-  -- no refusal stands
-  pub clear-marked : get_or s 3 0 < 8 → marked s ≡ eqb (get_or s 6 0) 0
-  unfolding marked
-  clear-marked h = rw (lt-ltb (get_or s 3 0) 8 h)
-
-  -- 1 and 2 cannot stand
-  pub low_unmarked : 8 ≤ get_or s 3 0 → get_or s 3 0 < 24 → marked s ≡ false
-  unfolding marked
-  low_unmarked h k = rw (le-ltb (get_or s 3 0) 8 h, lt-leb 24 (get_or s 3 0) k, ne_eqb (get_or s 3 0 / 8) 13 (λ e. omega arith))
-
-  -- 3 to 10 can
-  pub firm-marked : 24 ≤ get_or s 3 0 → get_or s 3 0 < 88 → marked s ≡ true
-  unfolding marked
-  firm-marked h k = rw (le-ltb (get_or s 3 0) 8 (omega arith), le-leb 24 (get_or s 3 0) h, lt-ltb (get_or s 3 0) 88 k)
-
-  -- of the others 13 can
-  pub hollow_marked : 88 ≤ get_or s 3 0 → marked s ≡ eqb (get_or s 3 0 / 8) 13
-  unfolding marked
-  hollow_marked k = rw (le-ltb (get_or s 3 0) 8 (omega arith), le-leb 24 (get_or s 3 0) (omega arith), le-ltb (get_or s 3 0) 88 k)
-
   pub known-one : get_or s 9 0 ≡ 1 → known s ≡ marked s
   unfolding known
   known-one h = rw (eq-eqb (get_or s 9 0) 1 h)
@@ -46,10 +26,6 @@ module _ (s : List ℕ) where
   pub known_two : get_or s 9 0 ≡ 2 → known s ≡ marked s
   unfolding known
   known_two h = rw (ne_eqb (get_or s 9 0) 1 (λ e. omega arith), eq-eqb (get_or s 9 0) 2 h)
-
-  pub known-none : (get_or s 9 0 ≡ 1 → ⊥) → (get_or s 9 0 ≡ 2 → ⊥) → known s ≡ false
-  unfolding known
-  known-none h k = rw (ne_eqb (get_or s 9 0) 1 h, ne_eqb (get_or s 9 0) 2 k)
 
 -- ---- the calls
 
@@ -104,3 +80,30 @@ module _ (sums : Version → ℕ → List ℕ → ℕ) (s page b : List ℕ) whe
   pub read-unknown : known s ≡ false → record { code = 2; out = read_out (Refused BadPlace) (pair_of s); state = s; buffer = b } ≡ feed_read sums s page b
   unfolding feed_read
   read-unknown h = rw h
+
+-- ---- laws of the definitions that no proof of a function needs any more
+
+module _ (s : List ℕ) where
+  -- no refusal stands
+  pub clear-marked : get_or s 3 0 < 8 → marked s ≡ eqb (get_or s 6 0) 0
+  unfolding marked
+  clear-marked h = rw (lt-ltb (get_or s 3 0) 8 h)
+
+  -- 1 and 2 cannot stand
+  pub low_unmarked : 8 ≤ get_or s 3 0 → get_or s 3 0 < 24 → marked s ≡ false
+  unfolding marked
+  low_unmarked h k = rw (le-ltb (get_or s 3 0) 8 h, lt-leb 24 (get_or s 3 0) k, ne_eqb (get_or s 3 0 / 8) 13 (λ e. omega arith))
+
+  -- 3 to 10 can
+  pub firm-marked : 24 ≤ get_or s 3 0 → get_or s 3 0 < 88 → marked s ≡ true
+  unfolding marked
+  firm-marked h k = rw (le-ltb (get_or s 3 0) 8 (omega arith), le-leb 24 (get_or s 3 0) h, lt-ltb (get_or s 3 0) 88 k)
+
+  -- of the others 13 can
+  pub hollow_marked : 88 ≤ get_or s 3 0 → marked s ≡ eqb (get_or s 3 0 / 8) 13
+  unfolding marked
+  hollow_marked k = rw (le-ltb (get_or s 3 0) 8 (omega arith), le-leb 24 (get_or s 3 0) (omega arith), le-ltb (get_or s 3 0) 88 k)
+
+  pub known-none : (get_or s 9 0 ≡ 1 → ⊥) → (get_or s 9 0 ≡ 2 → ⊥) → known s ≡ false
+  unfolding known
+  known-none h k = rw (ne_eqb (get_or s 9 0) 1 h, ne_eqb (get_or s 9 0) 2 k)

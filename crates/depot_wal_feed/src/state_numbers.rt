@@ -1,46 +1,45 @@
-// A feed's state as the numbers that C keeps: base, size, place in the page, marks, start, held, the
-// place of a refusal that stands, the pair, and the version. The others are spare.
+// A feed's state as the numbers that C keeps: base, size, place in the page, marks, start, held,
+// the place of a refusal that stands, the pair, and the version. The others are spare.
 ghost use Rattle.std.specs.Prelude.{◌≡◌, ◌≤◌};
 ghost use Rattle.wal_types.specs.Versions.{version_number};
-ghost use Rattle.depot_wal_feed.specs.Numbers.{standing_of, bit, marks, stored, stored_place, version_in, state_of, marked, known, standing_number, standing_place};
+ghost use Rattle.depot_wal_feed.specs.Numbers.{standing_of, marks, stored, stored_place, version_in, state_of, marked, known, standing_number, standing_place};
 
-use feed_format::{FeedState, GoodFeed, Standing};
+use feed_format::{FeedState, GoodFeed};
 use segment_format::Good;
 use wal_types::{Offset, Refusal, Version};
 
 // The refusal that a number and a place say stands.
-fn standing_of(number: u64, place: u64) -> Standing
+#[tactic(auto, unfolding(crate::specs::Numbers::standing_of))]
+fn standing_of(number: u64, place: u64) -> Option<Refusal>
     ensures { result ≡ standing_of number place }
 {
     let at = Offset(place as usize);
     match number {
-        3 => Standing::Stands(Refusal::Reserved(at)),
-        4 => Standing::Stands(Refusal::Compressed(at)),
-        5 => Standing::Stands(Refusal::BadType(at)),
-        6 => Standing::Stands(Refusal::NotZero(at)),
-        7 => Standing::Stands(Refusal::OutOfOrder(at)),
-        8 => Standing::Stands(Refusal::PastPage(at)),
-        9 => Standing::Stands(Refusal::TooLong(at)),
-        10 => Standing::Stands(Refusal::BadSum(at)),
-        13 => Standing::Stands(Refusal::Hollow(at)),
-        _ => Standing::Clear,
+        3 => Some(Refusal::Reserved(at)),
+        4 => Some(Refusal::Compressed(at)),
+        5 => Some(Refusal::BadType(at)),
+        6 => Some(Refusal::NotZero(at)),
+        7 => Some(Refusal::OutOfOrder(at)),
+        8 => Some(Refusal::PastPage(at)),
+        9 => Some(Refusal::TooLong(at)),
+        10 => Some(Refusal::BadSum(at)),
+        13 => Some(Refusal::Hollow(at)),
+        _ => None,
     }
 }
 
 // Whether the numbers are a state: first their version, then their marks.
+#[tactic(auto, unfolding(crate::specs::Numbers::known))]
 pub(crate) fn is_known(state: &[u64; 16]) -> bool
     ensures { result ≡ known state.now }
 {
-    let number = state[9];
-    if number == 1 {
-        return has_marks(state);
+    match state[9] {
+        1 | 2 => has_marks(state),
+        _ => false,
     }
-    if number == 2 {
-        return has_marks(state);
-    }
-    false
 }
 
+#[tactic(auto, unfolding(crate::specs::Numbers::marked))]
 fn has_marks(state: &[u64; 16]) -> bool
     ensures { result ≡ marked state.now }
 {
@@ -104,53 +103,39 @@ pub(crate) fn state_of(state: &[u64; 16]) -> GoodFeed
     }
 }
 
-fn bit_of(b: bool) -> u64
-    ensures { (result ≡ bit b) × (result ≤ 1) }
-{
-    if b { 1 } else { 0 }
-}
-
-fn standing_number(standing: Standing) -> u64
+fn standing_number(standing: Option<Refusal>) -> u64
     ensures { (result ≡ standing_number standing) × (result ≤ 4294967295) }
 {
-    match standing {
-        Standing::Clear => 0,
-        Standing::Stands(why) => wal_types::number(why) as u64,
-    }
+    standing.map_or(0, |why| u64::from(wal_types::number(why)))
 }
 
-fn standing_place(standing: Standing) -> u64
+fn standing_place(standing: Option<Refusal>) -> u64
     ensures { result ≡ standing_place standing }
 {
-    match standing {
-        Standing::Clear => 0,
-        Standing::Stands(why) => {
-            let at = wal_types::place(why);
-            at.0 as u64
-        }
-    }
+    standing.map_or(0, |why| wal_types::place(why).0 as u64)
 }
 
 // Three bits and the number of the refusal that stands, as one number.
-fn marks_of(asked: bool, ended: bool, opened: bool, standing: Standing) -> u64
-    ensures { result ≡ marks asked ended opened (standing_number standing) }
+#[tactic(auto, unfolding(crate::specs::Numbers::marks))]
+fn marks_of(state: FeedState) -> u64
+    ensures { result ≡ marks state.asked state.ended state.opened (standing_number state.standing) }
 {
-    let low = bit_of(asked) + 2 * bit_of(ended);
-    low + 4 * bit_of(opened) + 8 * standing_number(standing)
+    u64::from(state.asked)
+        + 2 * u64::from(state.ended)
+        + 4 * u64::from(state.opened)
+        + 8 * standing_number(state.standing)
 }
 
 // Stores what a read changes of a state; the page at hand and the spare numbers stay.
 pub(crate) fn store_place(next: GoodFeed, state: &mut [u64; 16])
     ensures { state.new ≡ stored_place next state.old }
 {
-    let inner = next.state;
-    let standing = inner.standing;
+    let GoodFeed { state: inner, good } = next;
     state[2] = inner.at as u64;
-    state[3] = marks_of(inner.asked, inner.ended, inner.opened, standing);
+    state[3] = marks_of(inner);
     state[4] = inner.start.0 as u64;
     state[5] = inner.held as u64;
-    state[6] = standing_place(standing);
-    let good = next.good;
+    state[6] = standing_place(inner.standing);
     state[7] = good.records as u64;
     state[8] = good.offset.0 as u64;
 }
@@ -159,8 +144,7 @@ pub(crate) fn store_place(next: GoodFeed, state: &mut [u64; 16])
 pub(crate) fn store(next: GoodFeed, state: &mut [u64; 16])
     ensures { state.new ≡ stored next state.old }
 {
-    let inner = next.state;
-    state[0] = inner.base as u64;
-    state[1] = inner.size as u64;
+    state[0] = next.state.base as u64;
+    state[1] = next.state.size as u64;
     store_place(next, state);
 }

@@ -1,6 +1,6 @@
-// The C calls that add histograms to a body; include/depot_wal.h describes them for C. A slice passes
-// as a pointer and a length, a fixed array as a pointer, a body's state as its tag and the bytes
-// used. A bucket is its 64 bits, a signed number's in two's complement. Slices by their first
+// The C calls that add histograms to a body; include/depot_wal.h describes them for C. A slice
+// passes as a pointer and a length, a fixed array as a pointer, a body's state as its tag and the
+// bytes used. A bucket is its 64 bits, a signed number's in two's complement. Slices by their first
 // letters: p the positive side, m the negative; o offsets, l lengths, b buckets. No crate calls
 // these; tools/archive joins them with those of depot_wal_bodies.
 #![tactic(auto)]

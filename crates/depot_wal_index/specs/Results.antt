@@ -3,19 +3,19 @@
 use Rattle.std.specs.Prelude.{List, [], ◌∷◌, ℕ}
 use Rattle.wal_types.specs.Refusals.{number_of, place_of}
 use Rattle.wal_types.specs.declared.Refusal.TheVariants.{BadName}
-use Rattle.wal_types.specs.declared.VersionFound.{VersionFound}
-use Rattle.wal_types.specs.declared.VersionFound.TheVariants.{Known, Unknown}
+use Rattle.wal_types.specs.Results.VersionFound.{VersionFound}
+use Rattle.wal_types.specs.Results.VersionFound.{Known, Unknown}
 use Rattle.segment_format.specs.Sums.{version_sum}
 use Rattle.index_format.specs.Calls.{IndexResult, unindexed, builder, checker, extender}
-use Rattle.index_format.specs.declared.IndexAnswer.{IndexAnswer}
-use Rattle.index_format.specs.declared.IndexAnswer.TheVariants.{Length, Refused}
-use Rattle.index_format.specs.declared.CheckAnswer.{CheckAnswer}
-use Rattle.index_format.specs.declared.CheckAnswer.TheVariants.{Accepted, Refused as Unaccepted}
-use Rattle.index_format.specs.declared.RowAnswer.{RowAnswer}
-use Rattle.index_format.specs.declared.RowAnswer.TheVariants.{Row, Refused as NoRow}
+use Rattle.index_format.specs.Results.IndexAnswer.{IndexAnswer}
+use Rattle.index_format.specs.Results.IndexAnswer.{Length, Refused}
+use Rattle.index_format.specs.Results.CheckAnswer.{CheckAnswer}
+use Rattle.index_format.specs.Results.CheckAnswer.{Accepted, Refused as Unaccepted}
+use Rattle.index_format.specs.Results.RowAnswer.{RowAnswer}
+use Rattle.index_format.specs.Results.RowAnswer.{Row, Refused as NoRow}
 
--- ---- by the version of a number: where there is none it is BadName, before everything else, and no
--- byte changes (FORMAT 1.4)
+-- ---- by the version of a number: where there is none it is BadName, before everything else, and
+-- no byte changes (FORMAT 1.4)
 
 abbrev pub builder_for : VersionFound → List ℕ → List ℕ → IndexResult
 builder_for (Known v) s b = builder (version_sum v) s b

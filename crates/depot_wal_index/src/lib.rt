@@ -1,97 +1,53 @@
-// The C calls about an index beside a segment. include/depot_wal.h says the same for C. tools/archive
-// joins them with the other calls.
+// The C calls about an index beside a segment. include/depot_wal.h says the same for C.
+// tools/archive joins them with the other calls. An answer's numbers are those of a write, of a
+// body's check or of a string (proofs/Laws), so depot_wal_results stores them.
 #![tactic(auto)]
 
-ghost use Rattle.std.specs.Prelude.{◌≡◌};
+ghost use Rattle.std.specs.Prelude.{◌≡◌, ok_or};
+ghost use Rattle.wal_types.specs.declared.Refusal.TheVariants.{BadName};
 ghost use Rattle.wal_types.specs.Versions.{version_of};
 ghost use Rattle.index_format.specs.Calls.{look_up};
 ghost use Rattle.depot_wal_index.specs.Results.{builder_for, checker_for, extender_for, index_code, index_out, check_code, check_out, row_code, row_out};
 
-use index_format::{CheckAnswer, IndexAnswer, RowAnswer};
-use wal_types::{Refusal, VersionFound, version_of};
+use depot_wal_results::{check_result, string_result as row_result, write_result};
+use wal_types::{Offset, Refusal, Version, version_of};
 
-// What building or extending answered; `given` is the number of bytes that the index had.
-fn index_result(answer: IndexAnswer, given: usize, out: &mut [u64; 2]) -> u32
+// What building or extending answered; `given` is the number of bytes that the index had. The
+// numbers are those of a write whose next place is where the index now ends.
+fn index_result(answer: Result<usize, Refusal>, given: usize, out: &mut [u64; 2]) -> u32
     ensures { (result ≡ index_code answer) × (out.new ≡ index_out given answer) }
 {
-    match answer {
-        IndexAnswer::Length(length) => {
-            *out = [length as u64, 0];
-            0
-        }
-        IndexAnswer::Refused(why) => {
-            let at = wal_types::place(why);
-            *out = [given as u64, at.0 as u64];
-            wal_types::number(why)
-        }
-    }
+    write_result(answer.map(Offset), given, out)
 }
 
-// What checking answered.
-fn check_result(answer: CheckAnswer, out: &mut [u64; 1]) -> u32
-    ensures { (result ≡ check_code answer) × (out.new ≡ check_out answer) }
+// The version of a number (FORMAT 1.4); what is no version is no name.
+fn known(number: u32) -> Result<Version, Refusal>
+    ensures { result ≡ ok_or (version_of number) BadName }
 {
-    match answer {
-        CheckAnswer::Accepted(count) => {
-            *out = [count as u64];
-            0
-        }
-        CheckAnswer::Refused(why) => {
-            let at = wal_types::place(why);
-            *out = [at.0 as u64];
-            wal_types::number(why)
-        }
-    }
+    version_of(number).ok_or(Refusal::BadName)
 }
 
-// What looking up answered.
-fn row_result(answer: RowAnswer, out: &mut [u64; 2]) -> u32
-    ensures { (result ≡ row_code answer) × (out.new ≡ row_out answer) }
-{
-    match answer {
-        RowAnswer::Row { start, length } => {
-            *out = [start.0 as u64, length as u64];
-            0
-        }
-        RowAnswer::Refused(why) => {
-            let at = wal_types::place(why);
-            *out = [at.0 as u64, 0];
-            wal_types::number(why)
-        }
-    }
-}
-
-// The calls by the number of a version (FORMAT 1.4).
-fn build_as(version: u32, segment: &[u8], index: &mut [u8]) -> IndexAnswer
+fn build_as(version: u32, segment: &[u8], index: &mut [u8]) -> Result<usize, Refusal>
     ensures { (result ≡ (builder_for (version_of version) segment.now index.old).answer)
         × (index.new ≡ (builder_for (version_of version) segment.now index.old).index) }
 {
-    let found = version_of(version);
-    match found {
-        VersionFound::Known(known) => segment_index::build(known, segment, index),
-        VersionFound::Unknown => IndexAnswer::Refused(Refusal::BadName),
-    }
+    let version = known(version)?;
+    segment_index::build(version, segment, index)
 }
 
-fn check_as(version: u32, segment: &[u8], index: &[u8]) -> CheckAnswer
+fn check_as(version: u32, segment: &[u8], index: &[u8]) -> Result<usize, Refusal>
     ensures { result ≡ checker_for (version_of version) segment.now index.now }
 {
-    let found = version_of(version);
-    match found {
-        VersionFound::Known(known) => segment_index::check(known, segment, index),
-        VersionFound::Unknown => CheckAnswer::Refused(Refusal::BadName),
-    }
+    let version = known(version)?;
+    segment_index::check(version, segment, index)
 }
 
-fn extend_as(version: u32, segment: &[u8], index: &mut [u8], used: usize) -> IndexAnswer
+fn extend_as(version: u32, segment: &[u8], index: &mut [u8], used: usize) -> Result<usize, Refusal>
     ensures { (result ≡ (extender_for (version_of version) segment.now index.old used).answer)
         × (index.new ≡ (extender_for (version_of version) segment.now index.old used).index) }
 {
-    let found = version_of(version);
-    match found {
-        VersionFound::Known(known) => segment_index::extend(known, segment, index, used),
-        VersionFound::Unknown => IndexAnswer::Refused(Refusal::BadName),
-    }
+    let version = known(version)?;
+    segment_index::extend(version, segment, index, used)
 }
 
 // Builds the index of a segment (FORMAT 19.2).

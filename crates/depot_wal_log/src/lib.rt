@@ -9,33 +9,31 @@ ghost use Rattle.log_format.specs.Calls.{good_replayed};
 ghost use Rattle.log_format.specs.Claims.{answer_number};
 ghost use Rattle.depot_wal_log.specs.Results.{replayer_for, replay_out};
 
-use log_format::{GoodReplayed, Mode, ReplayAnswer, Replayed};
+use log_format::{GoodReplayed, LogError, Mode, Replayed};
 use segment_format::Good;
-use wal_types::{Offset, Refusal, VersionFound, version_of};
+use wal_types::{Offset, Refusal, version_of};
 
 // A result as numbers: what the call returns, and what it leaves in `out`.
 fn replay_result(replayed: GoodReplayed, out: &mut [u64; 6]) -> u32
     ensures { (result ≡ answer_number replayed.result.answer) × (out.new ≡ replay_out replayed) }
 {
-    let result = replayed.result;
-    let good = replayed.good;
-    let records = good.records as u64;
-    let end = good.offset.0 as u64;
-    let answer = result.answer;
+    let GoodReplayed { result, good } = replayed;
     let series = result.series as u64;
     let orphans = result.orphans;
     let skipped = result.skipped;
-    match answer {
-        ReplayAnswer::Done => {
+    let records = good.records as u64;
+    let end = good.offset.0 as u64;
+    match result.answer {
+        Ok(()) => {
             *out = [0, series, orphans, skipped, records, end];
             0
         }
-        ReplayAnswer::Unread(why) => {
+        Err(LogError::Unread(why)) => {
             let at = wal_types::place(why);
             *out = [at.0 as u64, series, orphans, skipped, records, end];
             wal_types::number(why)
         }
-        ReplayAnswer::Stopped { why, start } => {
+        Err(LogError::Stopped { why, start }) => {
             *out = [start.0 as u64, series, orphans, skipped, records, end];
             wal_types::number(why)
         }
@@ -57,15 +55,10 @@ fn replay_as(
         × (buffer.new ≡ (replayer_for mode (version_of version) segment.now buffer.old
         table.old).buffer) }
 {
-    let found = version_of(version);
-    match found {
-        VersionFound::Known(known) => match mode {
-            Mode::Default => log_replay::replay(known, segment, buffer, table),
-            Mode::Strict => log_replay::replay_strict(known, segment, buffer, table),
-        },
-        VersionFound::Unknown => GoodReplayed {
+    let Some(version) = version_of(version) else {
+        return GoodReplayed {
             result: Replayed {
-                answer: ReplayAnswer::Unread(Refusal::BadName),
+                answer: Err(LogError::Unread(Refusal::BadName)),
                 series: 0,
                 orphans: 0,
                 skipped: 0,
@@ -74,7 +67,11 @@ fn replay_as(
                 records: 0,
                 offset: Offset(0),
             },
-        },
+        };
+    };
+    match mode {
+        Mode::Default => log_replay::replay(version, segment, buffer, table),
+        Mode::Strict => log_replay::replay_strict(version, segment, buffer, table),
     }
 }
 

@@ -1,21 +1,21 @@
 -- The answers of the calls about a name as C gets them: what a call returns, and what it leaves in
 -- `out`.
 -- To be believed. Assumes nothing.
-use Rattle.std.specs.Prelude.{List, [], ◌∷◌, ℕ}
+use Rattle.std.specs.Prelude.{Ok, List, [], ◌∷◌, ℕ}
 use Rattle.wal_types.specs.Refusals.{number_of, place_of}
-use Rattle.name_format.specs.declared.ParseAnswer.{ParseAnswer}
-use Rattle.name_format.specs.declared.ParseAnswer.TheVariants.{Name, Refused}
-use Rattle.name_format.specs.declared.MakeAnswer.{MakeAnswer}
-use Rattle.name_format.specs.declared.MakeAnswer.TheVariants.{Length, Refused as Unmade}
+use Rattle.name_format.specs.Results.ParseAnswer.{ParseAnswer}
+use Rattle.name_format.specs.Results.ParseAnswer.{Refused}
+use Rattle.name_format.specs.Results.MakeAnswer.{MakeAnswer}
+use Rattle.name_format.specs.Results.MakeAnswer.{Length, Refused as Unmade}
 
 -- 0, or the status number (FORMAT 12.1)
 abbrev pub parse_code : ParseAnswer → ℕ
-parse_code (Name q v) = 0
+parse_code (Ok r) = 0
 parse_code (Refused why) = number_of why
 
 -- sequence and version, or the refusal's place and 0
 abbrev pub parse_out : ParseAnswer → List ℕ
-parse_out (Name q v) = q ∷ v ∷ []
+parse_out (Ok r) = r.sequence ∷ r.version ∷ []
 parse_out (Refused why) = (place_of why).0 ∷ 0 ∷ []
 
 abbrev pub make_code : MakeAnswer → ℕ

@@ -7,18 +7,19 @@ ghost use Rattle.name_format.specs.Names.{parse_name};
 ghost use Rattle.name_format.specs.Calls.{make_name};
 ghost use Rattle.depot_wal_names.specs.Results.{parse_code, parse_out, make_code, make_out};
 
-use name_format::{MakeAnswer, ParseAnswer};
+use name_format::Name;
+use wal_types::Refusal;
 
 // What parsing answered.
-fn parse_result(answer: ParseAnswer, out: &mut [u64; 2]) -> u32
+fn parse_result(answer: Result<Name, Refusal>, out: &mut [u64; 2]) -> u32
     ensures { (result ≡ parse_code answer) × (out.new ≡ parse_out answer) }
 {
     match answer {
-        ParseAnswer::Name { sequence, version } => {
+        Ok(Name { sequence, version }) => {
             *out = [sequence, version];
             0
         }
-        ParseAnswer::Refused(why) => {
+        Err(why) => {
             let at = wal_types::place(why);
             *out = [at.0 as u64, 0];
             wal_types::number(why)
@@ -27,15 +28,15 @@ fn parse_result(answer: ParseAnswer, out: &mut [u64; 2]) -> u32
 }
 
 // What making answered.
-fn make_result(answer: MakeAnswer, out: &mut [u64; 2]) -> u32
+fn make_result(answer: Result<usize, Refusal>, out: &mut [u64; 2]) -> u32
     ensures { (result ≡ make_code answer) × (out.new ≡ make_out answer) }
 {
     match answer {
-        MakeAnswer::Length(length) => {
+        Ok(length) => {
             *out = [length as u64, 0];
             0
         }
-        MakeAnswer::Refused(why) => {
+        Err(why) => {
             let at = wal_types::place(why);
             *out = [0, at.0 as u64];
             wal_types::number(why)
@@ -49,8 +50,7 @@ pub extern "C" fn depot_wal_name_parse(name: &[u8], out: &mut [u64; 2]) -> u32
     ensures { (result ≡ parse_code (parse_name name.now))
         × (out.new ≡ parse_out (parse_name name.now)) }
 {
-    let answer = segment_name::parse(name);
-    parse_result(answer, out)
+    parse_result(segment_name::parse(name), out)
 }
 
 // Makes the name of a segment (FORMAT 21.1).
@@ -65,6 +65,5 @@ pub extern "C" fn depot_wal_name_make(
         × (out.new ≡ make_out (make_name sequence version name.old).answer)
         × (name.new ≡ (make_name sequence version name.old).buffer) }
 {
-    let answer = segment_name::make(sequence, version, name);
-    make_result(answer, out)
+    make_result(segment_name::make(sequence, version, name), out)
 }

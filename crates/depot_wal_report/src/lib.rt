@@ -1,5 +1,5 @@
-// The C call that adds a segment to a report. include/depot_wal.h says the same for C. tools/archive
-// joins it with the other calls.
+// The C call that adds a segment to a report. include/depot_wal.h says the same for C.
+// tools/archive joins it with the other calls.
 #![tactic(auto)]
 
 ghost use Rattle.std.specs.Prelude.{◌≡◌, [], ◌∷◌};
@@ -26,8 +26,7 @@ pub extern "C" fn depot_wal_report_segment(
         × (buffer.new ≡ (reporter version_sum (version_of version) segment.now buffer.old
         report.old).buffer) }
 {
-    let found = version_of(version);
-    let answer = log_report::report_segment(found, segment, buffer, report);
+    let answer = log_report::report_segment(version_of(version), segment, buffer, report);
     *out = [answer.place];
     answer.number
 }

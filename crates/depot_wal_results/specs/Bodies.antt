@@ -4,14 +4,14 @@
 use Rattle.std.specs.Prelude.{List, [], ◌∷◌, ℕ}
 use Rattle.wal_types.specs.Refusals.{number_of, place_of}
 use Rattle.wal_types.specs.Deltas.{to_bits}
-use Rattle.body_builder.specs.declared.Added.{Added}
-use Rattle.body_builder.specs.declared.Added.TheVariants.{Next, Refused}
-use Rattle.body_format.specs.declared.CheckAnswer.{CheckAnswer}
-use Rattle.body_format.specs.declared.CheckAnswer.TheVariants.{Entries, Refused as CheckRefused}
-use Rattle.body_format.specs.declared.EntryAnswer.{EntryAnswer}
-use Rattle.body_format.specs.declared.EntryAnswer.TheVariants.{Found as EntryFound, End, Refused as EntryRefused}
-use Rattle.body_format.specs.declared.StringAnswer.{StringAnswer}
-use Rattle.body_format.specs.declared.StringAnswer.TheVariants.{Found as StringFound, Refused as StringRefused}
+use Rattle.body_builder.specs.Results.Added.{Added}
+use Rattle.body_builder.specs.Results.Added.{Next, Refused}
+use Rattle.body_format.specs.Results.CheckAnswer.{CheckAnswer}
+use Rattle.body_format.specs.Results.CheckAnswer.{Entries, Refused as CheckRefused}
+use Rattle.body_format.specs.Results.EntryAnswer.{EntryAnswer}
+use Rattle.body_format.specs.Results.EntryAnswer.{Found as EntryFound, End, Refused as EntryRefused}
+use Rattle.body_format.specs.Results.StringAnswer.{StringAnswer}
+use Rattle.body_format.specs.Results.StringAnswer.{Found as StringFound, Refused as StringRefused}
 
 -- starting and adding: 0, else the status number (FORMAT 12.1)
 abbrev pub added_code : Added → ℕ

@@ -4,12 +4,12 @@
 use Rattle.std.specs.Prelude.{List, [], ◌∷◌, ℕ}
 use Rattle.wal_types.specs.Refusals.{number_of, place_of}
 use Rattle.wal_types.specs.Deltas.{to_bits}
-use Rattle.body_format.specs.declared.HistogramAnswer.{HistogramAnswer}
-use Rattle.body_format.specs.declared.HistogramAnswer.TheVariants as histogram
-use Rattle.body_format.specs.declared.SpanAnswer.{SpanAnswer}
-use Rattle.body_format.specs.declared.SpanAnswer.TheVariants as span
-use Rattle.body_format.specs.declared.BucketAnswer.{BucketAnswer}
-use Rattle.body_format.specs.declared.BucketAnswer.TheVariants as bucket
+use Rattle.body_format.specs.Results.HistogramAnswer.{HistogramAnswer}
+use Rattle.body_format.specs.Results.HistogramAnswer as histogram
+use Rattle.body_format.specs.Results.SpanAnswer.{SpanAnswer}
+use Rattle.body_format.specs.Results.SpanAnswer as span
+use Rattle.body_format.specs.Results.BucketAnswer.{BucketAnswer}
+use Rattle.body_format.specs.Results.BucketAnswer as bucket
 
 -- a histogram: tag, id, time, hint, schema, zero threshold, zero count, count, sum; then of positive
 -- spans, negative spans, positive buckets and negative buckets the count and the first place; then

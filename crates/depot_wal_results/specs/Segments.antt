@@ -1,29 +1,29 @@
 -- A read's and a write's answer as C gets them: what the call returns, and what it leaves in `out`.
 -- To be believed. Assumes nothing.
-use Rattle.std.specs.Prelude.{List, [], ◌∷◌, ℕ, get_or}
+use Rattle.std.specs.Prelude.{Some, Ok, List, [], ◌∷◌, ℕ, get_or}
 use Rattle.wal_types.specs.Refusals.{number_of, place_of}
 use Rattle.wal_types.specs.declared.Refusal.TheVariants.{BadName}
 use Rattle.wal_types.specs.declared.Version.{Version}
-use Rattle.wal_types.specs.declared.VersionFound.{VersionFound}
-use Rattle.wal_types.specs.declared.VersionFound.TheVariants.{Known, Unknown}
+use Rattle.wal_types.specs.Results.VersionFound.{VersionFound}
+use Rattle.wal_types.specs.Results.VersionFound.{Known, Unknown}
 use Rattle.segment_format.specs.declared.Good.{Good}
 use Rattle.segment_format.specs.Good.{good, GoodReader, good_reader}
 use Rattle.segment_format.specs.Calls.{Writer, writer}
-use Rattle.segment_format.specs.declared.ReadAnswer.{ReadAnswer}
-use Rattle.segment_format.specs.declared.ReadAnswer.TheVariants.{Record, End, Refused}
-use Rattle.segment_format.specs.declared.WriteAnswer.{WriteAnswer}
-use Rattle.segment_format.specs.declared.WriteAnswer.TheVariants.{Next, Refused as WriteRefused}
+use Rattle.segment_format.specs.Results.ReadAnswer.{ReadAnswer}
+use Rattle.segment_format.specs.Results.ReadAnswer.{End, Refused}
+use Rattle.segment_format.specs.Results.WriteAnswer.{WriteAnswer}
+use Rattle.segment_format.specs.Results.WriteAnswer.{Next, Refused as WriteRefused}
 
 -- 0 for a record, 200 for a clean end, else the status number (FORMAT 12.1)
 abbrev pub read_code : ReadAnswer → ℕ
-read_code (Record start n next) = 0
+read_code (Ok (Some r)) = 0
 read_code End = 200
 read_code (Refused why) = number_of why
 
 -- a record: its start, length and the place after it; an end: zeros; a refusal: its place, then
 -- zeros
 abbrev pub read_out : ReadAnswer → List ℕ
-read_out (Record start n next) = start.0 ∷ n ∷ next.0 ∷ []
+read_out (Ok (Some r)) = r.start.0 ∷ r.length ∷ r.next.0 ∷ []
 read_out End = 0 ∷ 0 ∷ 0 ∷ []
 read_out (Refused why) = (place_of why).0 ∷ 0 ∷ 0 ∷ []
 

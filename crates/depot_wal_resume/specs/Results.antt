@@ -1,19 +1,19 @@
--- The answer of `depot_wal_resume` as C gets it: what the call returns, and what it leaves in `out`.
--- To be believed. Assumes nothing.
+-- The answer of `depot_wal_resume` as C gets it: what the call returns, and what it leaves in
+-- `out`. To be believed. Assumes nothing.
 use Rattle.std.specs.Prelude.{List, [], ◌∷◌, ℕ}
 use Rattle.wal_types.specs.Refusals.{number_of, place_of}
 use Rattle.wal_types.specs.declared.Refusal.TheVariants.{BadName}
-use Rattle.wal_types.specs.declared.VersionFound.{VersionFound}
-use Rattle.wal_types.specs.declared.VersionFound.TheVariants.{Known, Unknown}
+use Rattle.wal_types.specs.Results.VersionFound.{VersionFound}
+use Rattle.wal_types.specs.Results.VersionFound.{Known, Unknown}
 use Rattle.segment_format.specs.declared.Good.{Good}
 use Rattle.segment_format.specs.Good.{none_yet}
 use Rattle.segment_format.specs.Sums.{version_sum}
-use Rattle.resume_format.specs.declared.ResumeAnswer.{ResumeAnswer}
-use Rattle.resume_format.specs.declared.ResumeAnswer.TheVariants.{Place, Refused}
+use Rattle.resume_format.specs.Results.ResumeAnswer.{ResumeAnswer}
+use Rattle.resume_format.specs.Results.ResumeAnswer.{Place, Refused}
 use Rattle.resume_format.specs.Resume.{ResumeResult, unresumed, resumer}
 
--- by the version of a number: where there is none it is BadName, before everything else, and no byte
--- changes (FORMAT 1.4)
+-- by the version of a number: where there is none it is BadName, before everything else, and no
+-- byte changes (FORMAT 1.4)
 abbrev pub resumer_for : VersionFound → List ℕ → ℕ → ResumeResult
 resumer_for (Known v) s c = resumer (version_sum v) s c
 resumer_for Unknown s c = unresumed BadName none_yet s

@@ -6,22 +6,22 @@ ghost use Rattle.std.specs.Prelude.{◌≡◌};
 ghost use Rattle.wal_types.specs.Versions.{version_of};
 ghost use Rattle.depot_wal_resume.specs.Results.{resumer_for, resume_code, resume_out};
 
-use resume_format::{ResumeAnswer, Resumed};
+use resume_format::Resumed;
 use segment_format::Good;
-use wal_types::{Offset, Refusal, VersionFound, version_of};
+use wal_types::{Offset, Refusal, version_of};
 
 // What resuming answered.
-fn resume_result(answer: ResumeAnswer, good: Good, out: &mut [u64; 4]) -> u32
+fn resume_result(answer: Result<Offset, Refusal>, good: Good, out: &mut [u64; 4]) -> u32
     ensures { (result ≡ resume_code answer) × (out.new ≡ resume_out answer good) }
 {
     let records = good.records as u64;
     let offset = good.offset.0 as u64;
     match answer {
-        ResumeAnswer::Place(at) => {
+        Ok(at) => {
             *out = [at.0 as u64, 0, records, offset];
             0
         }
-        ResumeAnswer::Refused(why) => {
+        Err(why) => {
             let at = wal_types::place(why);
             *out = [0, at.0 as u64, records, offset];
             wal_types::number(why)
@@ -34,17 +34,16 @@ fn resume_as(version: u32, segment: &mut [u8], survived: usize) -> Resumed
     ensures { (result ≡ (resumer_for (version_of version) segment.old survived).resumed)
         × (segment.new ≡ (resumer_for (version_of version) segment.old survived).slice) }
 {
-    let found = version_of(version);
-    match found {
-        VersionFound::Known(known) => segment_resume::resume(known, segment, survived),
-        VersionFound::Unknown => Resumed {
-            answer: ResumeAnswer::Refused(Refusal::BadName),
+    let Some(version) = version_of(version) else {
+        return Resumed {
+            answer: Err(Refusal::BadName),
             good: Good {
                 records: 0,
                 offset: Offset(0),
             },
-        },
-    }
+        };
+    };
+    segment_resume::resume(version, segment, survived)
 }
 
 // Where to go on in a segment of which the first `survived` bytes stand (FORMAT 23).
@@ -61,8 +60,6 @@ pub extern "C" fn depot_wal_resume(
         (resumer_for (version_of version) segment.old survived).resumed.good)
         × (segment.new ≡ (resumer_for (version_of version) segment.old survived).slice) }
 {
-    let resumed = resume_as(version, segment, survived);
-    let answer = resumed.answer;
-    let good = resumed.good;
+    let Resumed { answer, good } = resume_as(version, segment, survived);
     resume_result(answer, good, out)
 }

@@ -8,8 +8,8 @@ ghost use Rattle.segment_format.specs.Sums.{version_sum, table_sum};
 ghost use Rattle.depot_wal_results.specs.Segments.{read_code, read_out, good_of, good_out, write_code, write_out, reader_for, writer_for};
 
 use depot_wal_results::{good_of, read_result, write_result};
-use segment_format::{ReadAnswer, WriteAnswer};
-use wal_types::{Offset, Refusal, Version, VersionFound, version_of};
+use segment_format::Record;
+use wal_types::{Offset, Refusal, Version, version_of};
 
 // Reads, and turns the answer into numbers, for the calls with a table and without. It is done here
 // because an answer passed on to another function would be stored in parts and loaded whole, which
@@ -41,33 +41,18 @@ fn read_to_out(
         buffer,
         given,
     );
-    let answer = read.answer;
-    count_read(answer, good);
-    read_result(answer, out)
+    count_read(read.answer, good);
+    read_result(read.answer, out)
 }
 
 // The pair with this answer, in place: numbers kept in registers over the read would cost more.
-fn count_read(answer: ReadAnswer, good: &mut [u64; 2])
+fn count_read(answer: Result<Option<Record>, Refusal>, good: &mut [u64; 2])
     requires { Counts answer (good_of good.old) }
     ensures { good.new ≡ good_out (good_after answer (good_of good.old)) }
 {
-    let records = good[0];
-    let end = good[1];
-    match answer {
-        ReadAnswer::Record {
-            start: _,
-            length: _,
-            next,
-        } => {
-            let more = records + 1;
-            *good = [more, next.0 as u64];
-        }
-        ReadAnswer::End => {
-            *good = [records, end];
-        }
-        ReadAnswer::Refused(_) => {
-            *good = [records, end];
-        }
+    if let Ok(Some(record)) = answer {
+        let more = good[0] + 1;
+        *good = [more, record.next.0 as u64];
     }
 }
 
@@ -97,9 +82,9 @@ fn write_to_out(
     write_result(answer, place, out)
 }
 
-// Both by the number of a version (FORMAT 1.4). No two words that C passes on the stack side by side
-// are passed on side by side: the compiler would copy both by one wide load, which waits until the
-// caller's two stores are in the cache (docs/SPEED.md).
+// Both by the number of a version (FORMAT 1.4). No two words that C passes on the stack side by
+// side are passed on side by side: the compiler would copy both by one wide load, which waits until
+// the caller's two stores are in the cache (docs/SPEED.md).
 fn read_as(
     table: &[u32],
     segment: &[u8],
@@ -118,9 +103,8 @@ fn read_as(
         × (buffer.new ≡ (reader_for (λ v. table_sum v table.now) (version_of number) segment.now place
         buffer.old (good_of good.old)).buffer) }
 {
-    let found = version_of(number);
-    match found {
-        VersionFound::Known(version) => read_to_out(
+    match version_of(number) {
+        Some(version) => read_to_out(
             version,
             &table[0..],
             &segment[0..],
@@ -129,11 +113,7 @@ fn read_as(
             good,
             out,
         ),
-        VersionFound::Unknown => {
-            let answer = ReadAnswer::Refused(Refusal::BadName);
-            count_read(answer, good);
-            read_result(answer, out)
-        }
+        None => read_result(Err(Refusal::BadName), out),
     }
 }
 
@@ -152,17 +132,9 @@ fn write_as(
         × (segment.new ≡ (writer_for (λ v. table_sum v table.now) (version_of number) segment.old place
         «record».now).slice) }
 {
-    let found = version_of(number);
-    match found {
-        VersionFound::Known(version) => write_to_out(
-            version,
-            &table[0..],
-            segment,
-            place,
-            &record[0..],
-            out,
-        ),
-        VersionFound::Unknown => write_result(WriteAnswer::Refused(Refusal::BadName), place, out),
+    match version_of(number) {
+        Some(version) => write_to_out(version, &table[0..], segment, place, &record[0..], out),
+        None => write_result(Err(Refusal::BadName), place, out),
     }
 }
 

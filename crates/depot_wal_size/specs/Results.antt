@@ -3,8 +3,8 @@
 -- To be believed. Assumes nothing.
 use Rattle.std.specs.Prelude.{List, [], ◌∷◌, ℕ}
 use Rattle.wal_types.specs.Refusals.{number_of, place_of}
-use Rattle.size_format.specs.declared.PagesAnswer.{PagesAnswer}
-use Rattle.size_format.specs.declared.PagesAnswer.TheVariants.{Pages, Refused}
+use Rattle.size_format.specs.Results.PagesAnswer.{PagesAnswer}
+use Rattle.size_format.specs.Results.PagesAnswer.{Pages, Refused}
 
 -- 0, or the status number (FORMAT 12.1)
 abbrev pub pages_code : PagesAnswer → ℕ

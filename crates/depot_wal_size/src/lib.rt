@@ -6,22 +6,18 @@ ghost use Rattle.std.specs.Prelude.{◌≡◌};
 ghost use Rattle.size_format.specs.Size.{pages_for};
 ghost use Rattle.depot_wal_size.specs.Results.{pages_code, pages_out};
 
-use size_format::PagesAnswer;
-
 // The pages of a slice that holds every list of so many records and bytes (FORMAT 20.3).
 #[unsafe(no_mangle)]
 pub extern "C" fn depot_wal_pages_for(records: u64, bytes: u64, out: &mut [u64; 1]) -> u32
     ensures { (result ≡ pages_code (pages_for records bytes)) × (out.new ≡ pages_out (pages_for records bytes)) }
 {
-    let answer = segment_size::pages_for(records, bytes);
-    match answer {
-        PagesAnswer::Pages(pages) => {
+    match segment_size::pages_for(records, bytes) {
+        Ok(pages) => {
             *out = [pages];
             0
         }
-        PagesAnswer::Refused(why) => {
-            let at = wal_types::place(why);
-            *out = [at.0 as u64];
+        Err(why) => {
+            *out = [wal_types::place(why).0 as u64];
             wal_types::number(why)
         }
     }

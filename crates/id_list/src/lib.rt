@@ -5,7 +5,7 @@
 // for each id that the hint does not show.
 #![tactic(auto)]
 
-ghost use Rattle.std.specs.Prelude.{◌≡◌, true, ◌≤◌, ◌<◌, length, get_or};
+ghost use Rattle.std.specs.Prelude.{◌≡◌, true};
 ghost use Rattle.checkpoint_format.specs.Keeping.{is_listed};
 ghost use Rattle.id_list.specs.Ascending.{is_ascending};
 ghost use Rattle.id_list.specs.Places.{Below};
@@ -16,17 +16,7 @@ use wal_types::SeriesId;
 pub fn is_ascending(ids: &[u64]) -> bool
     ensures { result ≡ is_ascending ids.now }
 {
-    let mut last: u64 = 0;
-    let mut i: usize = 0;
-    while i < ids.len() {
-        let id = ids[i];
-        if id < last {
-            return false;
-        }
-        last = id;
-        i += 1;
-    }
-    true
+    ids.is_sorted()
 }
 
 // Whether an id is listed. `ascending` may be true only of a list that ascends; false is good for
@@ -35,94 +25,52 @@ pub fn is_listed(ids: &[u64], ascending: bool, hints: &mut [u32; 4096], id: Seri
     ensures { (ascending ≡ true → is_ascending ids.now ≡ true)
         → result ≡ is_listed id.0 ids.now }
 {
-    let number = id.0;
-    let slot = (number % 4096) as usize;
-    let hint = place_of(hints[slot]);
-    if hint < ids.len() {
-        if ids[hint] == number {
-            return true;
-        }
+    let SeriesId(id) = id;
+    let hint = &mut hints[(id % 4096) as usize];
+    let place = *hint as usize;
+    if place < ids.len() && ids[place] == id {
+        return true;
     }
     if ascending {
-        return is_in_order(ids, hints, slot, hint, number);
+        return is_in_order(ids, hint, id);
     }
-    is_anywhere(ids, hints, slot, number)
+    is_anywhere(ids, hint, id)
 }
 
-// A hint as a place.
-fn place_of(hint: u32) -> usize
-    ensures { result ≡ hint }
-{
-    hint as usize
-}
-
-// In a list that ascends: by the neighbours at the hint, or else where a search ends.
-fn is_in_order(ids: &[u64], hints: &mut [u32; 4096], slot: usize, hint: usize, id: u64) -> bool
-    requires { slot < 4096 }
+// In a list that ascends: by the neighbours at the hint, or else by a search.
+fn is_in_order(ids: &[u64], hint: &mut u32, id: u64) -> bool
     ensures { is_ascending ids.now ≡ true → result ≡ is_listed id ids.now }
 {
-    if ids.len() == 0 {
+    let Some(first) = ids.first() else {
+        return false;
+    };
+    if id < *first {
         return false;
     }
-    if id < ids[0] {
-        return false;
+    let place = *hint as usize;
+    if is_below(ids, place, id) {
+        return ids[place] == id;
     }
-    if is_below(ids, hint, id) {
-        return ids[hint] == id;
-    }
-    let place = place_below(ids, id);
-    hints[slot] = (place % 4294967296) as u32;
-    ids[place] == id
+    let found = ids.binary_search(&id);
+    let below = found.unwrap_or_else(|above| above.saturating_sub(1));
+    *hint = (below % 4294967296) as u32;
+    found.is_ok()
 }
 
 // Whether an id is at a place, or would follow it.
 fn is_below(ids: &[u64], place: usize, id: u64) -> bool
     ensures { result ≡ true → Below ids.now id place }
 {
-    if ids.len() <= place {
-        return false;
-    }
-    if id < ids[place] {
-        return false;
-    }
-    if ids.len() - place == 1 {
-        return true;
-    }
-    let next = place + 1;
-    id < ids[next]
-}
-
-// Such a place, by halving.
-fn place_below(ids: &[u64], id: u64) -> usize
-    requires { (0 < length ids.now) × (get_or ids.now 0 0 ≤ id) }
-    ensures { Below ids.now id result }
-{
-    let mut low: usize = 0;
-    let mut high = ids.len();
-    while 1 < high - low {
-        let half = (high - low) / 2;
-        let middle = low + half;
-        if id < ids[middle] {
-            high = middle;
-        } else {
-            low = middle;
-        }
-    }
-    low
+    place < ids.len() && ids[place] <= id && (place + 1 == ids.len() || id < ids[place + 1])
 }
 
 // In any list: id by id.
-fn is_anywhere(ids: &[u64], hints: &mut [u32; 4096], slot: usize, id: u64) -> bool
-    requires { slot < 4096 }
+fn is_anywhere(ids: &[u64], hint: &mut u32, id: u64) -> bool
     ensures { result ≡ is_listed id ids.now }
 {
-    let mut i: usize = 0;
-    while i < ids.len() {
-        if ids[i] == id {
-            hints[slot] = (i % 4294967296) as u32;
-            return true;
-        }
-        i += 1;
-    }
-    false
+    let Some(place) = ids.iter().position(|listed| *listed == id) else {
+        return false;
+    };
+    *hint = (place % 4294967296) as u32;
+    true
 }

@@ -9,9 +9,9 @@ use Rattle.segment_format.specs.Reading.{window, zeros, sized, filled, typed, st
 use Rattle.segment_format.specs.Calls.{Delivered, read_from}
 use Rattle.wal_types.specs.declared.Version.TheVariants.{One}
 use Rattle.segment_format.specs.Sums.{version_sum}
-use Rattle.index_format.specs.declared.CheckAnswer.TheVariants.{Accepted}
-use Rattle.index_format.specs.declared.IndexAnswer.{IndexAnswer}
-use Rattle.index_format.specs.declared.IndexAnswer.TheVariants.{Length, Refused}
+use Rattle.index_format.specs.Results.CheckAnswer.{Accepted}
+use Rattle.index_format.specs.Results.IndexAnswer.{IndexAnswer}
+use Rattle.index_format.specs.Results.IndexAnswer.{Length, Refused}
 use Rattle.index_format.specs.Index.{rows_of, index_of, records_from}
 use Rattle.index_format.specs.Calls.{IndexResult, IndexCalls, put, builder, checker, extender, look_up}
 use Rattle.index_format.specs.Claims.{IndexAt, Indexes}

@@ -1,3 +1,4 @@
+pub mod Results
 pub mod Index
 pub mod Calls
 pub mod Claims

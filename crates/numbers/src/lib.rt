@@ -1,5 +1,5 @@
-// Small functions on numbers that several crates need. A byte is widened by a function because
-// `b[i] as u64` would owe a proof at each use that the byte fits.
+// Small functions on numbers that several crates need: std's `min`, and `From` of a byte with the
+// bound that its number keeps.
 #![tactic(auto)]
 
 ghost use Rattle.std.specs.Prelude.{◌≡◌, ◌<◌, min};
@@ -8,26 +8,26 @@ ghost use Rattle.std.specs.Prelude.{◌≡◌, ◌<◌, min};
 pub fn smaller(a: usize, b: usize) -> usize
     ensures { result ≡ min a b }
 {
-    if a < b { a } else { b }
+    a.min(b)
 }
 
 // A byte as an index or a length.
 pub fn wide(byte: u8) -> usize
     ensures { (result ≡ byte) × (result < 256) }
 {
-    byte as usize
+    usize::from(byte)
 }
 
 // A byte as a number of 32 bits.
 pub fn wide32(byte: u8) -> u32
     ensures { (result ≡ byte) × (result < 256) }
 {
-    byte as u32
+    u32::from(byte)
 }
 
 // A byte as a number of 64 bits.
 pub fn wide64(byte: u8) -> u64
     ensures { (result ≡ byte) × (result < 256) }
 {
-    byte as u64
+    u64::from(byte)
 }

@@ -1,12 +1,11 @@
-// Words of an output line, for any writer. Each call appends its bytes to what the writer holds, where
-// that is known, unless a write fails.
+// Words of an output line, for any writer. Each call appends its bytes to what the writer holds,
+// where that is known, unless a write fails.
 #![tactic(auto)]
 
 ghost use Rattle.std.specs.Prelude.{◌≡◌, ◌+◌, ◌/◌, ◌%◌, ◌++◌, ◌∷◌, [], OnOk, codes, decimal, take};
 ghost use Rattle.std.specs.Io.KnownBytes.{Appends};
 ghost use Rattle.print.specs.Pairs.{hex_pair, hex_pairs};
 
-use numbers::smaller;
 use std::io;
 use std::io::Write;
 
@@ -67,7 +66,7 @@ pub fn byte<W: Write>(out: &mut W, byte: u8) -> io::Result<()>
 pub fn bytes<W: Write>(out: &mut W, s: &[u8], n: usize) -> io::Result<()>
     ensures { OnOk result (Appends (W.contents out.old) (W.contents out.new) (hex_pairs (take n s.now))) }
 {
-    let count = smaller(n, s.len());
+    let count = n.min(s.len());
     for b in &s[..count] {
         byte(out, *b)?;
     }

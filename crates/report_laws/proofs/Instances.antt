@@ -6,7 +6,7 @@ use Rattle.std.specs.Prelude.{◌≡◌, List, ℕ, ◌+◌, ◌*◌, ◌≤◌,
 use Rattle.std.proofs.Common.{subst}
 use Rattle.crc32c_format.specs.Table.{slice_table}
 use Rattle.wal_types.specs.declared.Version.{Version}
-use Rattle.wal_types.specs.declared.VersionFound.TheVariants.{Known}
+use Rattle.wal_types.specs.Results.VersionFound.{Known}
 use Rattle.wal_types.specs.Sizes.{page_size, segment_limit}
 use Rattle.segment_format.specs.Sums.{version_sum, table_sum}
 use Rattle.segment_format.proofs.Laws.Sums.{sum_own}

@@ -2,22 +2,19 @@
 -- None of them keeps it, for every checksum.
 -- Assumes nothing.
 use Rattle.std.proofs.Math.Path.{◌≡◌, refl, sym, ap, subst}
-use Rattle.std.proofs.Common.{◌∙◌, le-ltb}
+use Rattle.std.proofs.Common.{◌∙◌, le-ltb, List, [], ◌∷◌, append-nil, ℕ, zero, suc, ◌+◌, ◌≤◌, arith}
 use Rattle.std.proofs.Math.Bool.{Bool, true, false}
 use Rattle.std.specs.Prelude.{cond, drop, replicate, ltb}
-use mathlib.Core.List.{List, [], ◌∷◌, append-nil}
-use Prim.Native.Nat.{ℕ, zero, suc, ◌+◌, ◌≤◌}
-use native.Mathlib.Omega.{arith}
 use Rattle.std.proofs.Math.ListN.{length, get_or}
 use Rattle.std.proofs.lemmas.List.{length-replicate}
 use Rattle.std.proofs.Math.Seq.{take_all}
 use Rattle.wal_types.specs.declared.Refusal.TheVariants.{BadBuffer, Torn}
 use Rattle.wal_types.specs.declared.Version.{Version}
 use Rattle.wal_types.specs.declared.Version.TheVariants.{One}
-use Rattle.wal_types.specs.declared.VersionFound.TheVariants.{Known}
+use Rattle.wal_types.specs.Results.VersionFound.{Known}
 use Rattle.wal_types.specs.Terms.{offset}
 use Rattle.wal_types.specs.Sizes.{page_size, record_limit}
-use Rattle.segment_format.specs.declared.ReadAnswer.TheVariants.{Refused as SliceRefused}
+use Rattle.segment_format.specs.Results.ReadAnswer.{Refused as SliceRefused}
 use Rattle.segment_format.specs.Good.{none_yet, fair}
 use Rattle.segment_format.specs.Reading.{closed, opened, torn, run}
 use Rattle.segment_format.specs.Writing.{fragment, fragment_bytes}
@@ -29,8 +26,8 @@ use Rattle.segment_format.proofs.Laws.RoundTrip.{run_of}
 use Rattle.feed_format.specs.declared.FeedState.{FeedState}
 use Rattle.feed_format.specs.declared.GoodFeed.{GoodFeed}
 use Rattle.feed_format.specs.declared.GoodFed.{GoodFed}
-use Rattle.feed_format.specs.declared.FeedAnswer.{FeedAnswer}
-use Rattle.feed_format.specs.declared.FeedAnswer.TheVariants.{More, End, Refused}
+use Rattle.feed_format.specs.Results.FeedAnswer.{FeedAnswer}
+use Rattle.feed_format.specs.Results.FeedAnswer.{More, End, Refused}
 use Rattle.feed_format.specs.Feeding.{fresh, turned as turnedState, sound as fedSound, feed_rule, feed_on, Got, got, walk, read_on}
 use Rattle.feed_format.specs.Meaning.{Stream, empty, Out, read, Turn as Passed, takes, gather, front, no_further, found_read, read_meant}
 use Rattle.feed_format.specs.Pairing.{good_fresh, good_feed, good_feed_on, GoodGot, got_beside, good_read_on}

@@ -7,7 +7,7 @@ use Rattle.std.proofs.Common.{sym, ap, ◌∙◌, subst, append-nil, arith, leng
 use Rattle.std.proofs.Math.Bool.{true, false}
 use Rattle.std.proofs.Math.ListN.{length}
 use Rattle.wal_types.specs.declared.Version.{Version}
-use Rattle.wal_types.specs.declared.VersionFound.TheVariants.{Known}
+use Rattle.wal_types.specs.Results.VersionFound.{Known}
 use Rattle.wal_types.specs.Sizes.{page_size, segment_limit}
 use Rattle.feed_format.specs.Pairing.{good_fresh}
 use Rattle.report_format.specs.Readings.{Line}

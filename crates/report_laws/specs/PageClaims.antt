@@ -4,7 +4,7 @@
 -- To be believed. Assumes nothing.
 use Rattle.std.specs.Prelude.{◌≡◌, true, List, [], ◌∷◌, ℕ, ◌+◌, ◌*◌, ◌≤◌, ◌<◌, length}
 use Rattle.wal_types.specs.declared.Version.{Version}
-use Rattle.wal_types.specs.declared.VersionFound.TheVariants.{Known}
+use Rattle.wal_types.specs.Results.VersionFound.{Known}
 use Rattle.wal_types.specs.Sizes.{page_size, segment_limit}
 use Rattle.report_format.specs.declared.PageReport.{PageReport}
 use Rattle.report_format.specs.Calls.{reporter}

@@ -1,44 +1,29 @@
--- One byte less of a path: it is a `/`, or the last `/` is before it. And a name's version.
+-- The last `/` of a path is where all bytes behind it are others. And the version in a path.
 -- Assumes nothing.
-use mathlib.Core.Path.{◌≡◌, sym, ap, ◌∙◌}
-use mathlib.Core.List.{List}
-use Prim.Native.Nat.{ℕ, zero, suc, ◌-◌, ◌≤◌, ◌<◌}
-use native.Mathlib.Omega.{arith}
-use borrow.Author.Tests.{eq-eqb, ne_eqb}
-use lib.ListN.{length, get_or, take, drop, length-drop}
-use lib.Seq.{take_all}
-use Rattle.wal_types.specs.declared.Version.TheVariants.{One, Two}
-use Rattle.wal_types.specs.declared.VersionFound.{VersionFound}
-use Rattle.wal_types.specs.declared.VersionFound.TheVariants.{Known}
-use Rattle.name_format.specs.declared.ParseAnswer.{ParseAnswer}
-use Rattle.name_format.specs.declared.ParseAnswer.TheVariants.{Name}
+use Rattle.std.proofs.Common.{◌≡◌, ◌≢◌, refl, sym, ap, ◌∙◌, Bool, true, false, leb, List, ℕ, zero, suc, ◌+◌, ◌-◌, ◌≤◌, ◌<◌, arith, eq-eqb, ne_eqb, length, get_or, take, drop, length-drop, take_all}
+use Rattle.std.proofs.lemmas.Bool.{leb-true, leb-false}
+use Rattle.wal_types.specs.Results.VersionFound.{VersionFound}
+use Rattle.name_format.specs.Results.ParseAnswer.{ParseAnswer}
 use Rattle.name_format.specs.Names.{parse_name}
 use Rattle.reporting.specs.Paths.{after_slash, version_named, version_in}
 
-pub slash_here : (s : List ℕ) (i : ℕ) → 0 < i → get_or s (i - 1) 0 ≡ 47 → i ≡ after_slash s i
+pub slash_last : (s : List ℕ) (i n : ℕ) → i < n → get_or s i 0 ≡ 47 → ((k : ℕ) → i + 1 ≤ k → k < n → get_or s k 0 ≢ 47) → i + 1 ≡ after_slash s n
 unfolding after_slash
-slash_here s zero h e = absurd (omega arith)
-slash_here s (suc n) h e =
-    let k : suc n - 1 ≡ n = omega arith in
-    rw (eq-eqb (get_or s n 0) 47 (ap (λ j. get_or s j 0) (sym k) ∙ e))
+slash_last s i zero l e h = absurd (omega arith)
+slash_last s i (suc n) l e h = go (leb n i) refl (λ k. slash_last s i n k e (λ j a b. h j a (omega arith)))
+  where
+    go : (t : Bool) → leb n i ≡ t → (i < n → i + 1 ≡ after_slash s n) → i + 1 ≡ after_slash s (suc n)
+    go true f before =
+        let k : i ≡ n = omega (arith, leb-true n i f) in
+        rw (eq-eqb (get_or s n 0) 47 (ap (λ j. get_or s j 0) (sym k) ∙ e)) (omega (arith, k))
+    go false f before =
+        let k : i < n = leb-false n i f in
+        rw (ne_eqb (get_or s n 0) 47 (h n (omega arith) (omega arith))) (before k)
 
-pub slash_before : (s : List ℕ) (i : ℕ) → 0 < i → (get_or s (i - 1) 0 ≡ 47 → ⊥) → after_slash s (i - 1) ≡ after_slash s i
+pub slash_none : (s : List ℕ) (n : ℕ) → ((k : ℕ) → k < n → get_or s k 0 ≢ 47) → 0 ≡ after_slash s n
 unfolding after_slash
-slash_before s zero h e = absurd (omega arith)
-slash_before s (suc n) h e =
-    let k : suc n - 1 ≡ n = omega arith in
-    rw (k, ne_eqb (get_or s n 0) 47 (λ z. e (ap (λ j. get_or s j 0) k ∙ z)))
-
-pub slash_none : (s : List ℕ) (i n : ℕ) → i ≤ 0 → after_slash s i ≡ n → 0 ≡ n
-unfolding after_slash
-slash_none s zero n h e = e
-slash_none s (suc i) n h e = absurd (omega arith)
-
-pub named-one : (a : ParseAnswer) (q v : ℕ) → a ≡ Name q v → v ≡ 1 → Known One ≡ version_named a
-named-one a q v e h = rw (e, eq-eqb v 1 h)
-
-pub named_two : (a : ParseAnswer) (q v : ℕ) → a ≡ Name q v → (v ≡ 1 → ⊥) → Known Two ≡ version_named a
-named_two a q v e h = rw (e, ne_eqb v 1 h)
+slash_none s zero h = refl
+slash_none s (suc n) h = rw (ne_eqb (get_or s n 0) 47 (h n (omega arith))) (slash_none s n (λ k l. h k (omega arith)))
 
 pub version_is : (s : List ℕ) (n : ℕ) (a : ParseAnswer) (r : VersionFound) → n ≡ after_slash s (length s)
     → a ≡ parse_name (take (length s - n) (drop n s)) → r ≡ version_named a → r ≡ version_in s

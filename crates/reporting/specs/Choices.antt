@@ -1,6 +1,6 @@
 -- FORMAT 22.10: what the program decides: of a segment that adds nothing, and of a line of the report.
 -- To be believed. Assumes nothing.
-use Rattle.std.specs.Prelude.{◌≡◌, Bool, cond, List, ℕ, get_or, ltb, leb, eqb}
+use Rattle.std.specs.Prelude.{◌≡◌, Ok, Bool, cond, List, ℕ, get_or, ltb, leb, eqb}
 use Rattle.wal_types.specs.declared.Refusal.TheVariants.{BadBuffer, BadName}
 use Rattle.wal_types.specs.Refusals.{number_of}
 use Rattle.wal_types.specs.Sizes.{segment_limit}
@@ -9,8 +9,7 @@ use Rattle.report_format.specs.declared.Reported.{Reported}
 use Rattle.report_format.specs.Readings.{Line}
 use Rattle.report_format.specs.Adding.{night_limit}
 use Rattle.report_format.specs.Paging.{beginner}
-use Rattle.reporting.specs.declared.files.Taken.{Taken}
-use Rattle.reporting.specs.declared.files.Taken.TheVariants.{Segment, Nothing}
+use Rattle.reporting.specs.Taken.{Taken, Segment, Nothing}
 use Rattle.reporting.specs.declared.lines.Shown.{Shown}
 
 abbrev pub answer : ℕ → ℕ → Reported
@@ -33,7 +32,7 @@ judged total failed n p =
 -- The numbers were t before a file, and are u after it. The answer r and the numbers w: a segment's
 -- stay; one that adds nothing is begun on t, whatever stands in it.
 abbrev pub Settled : Taken → List ℕ → List ℕ → Reported → List ℕ → Type 0
-Settled (Segment n p) t u r w = (r ≡ answer n p) × (w ≡ u)
+Settled (Ok a) t u r w = (r ≡ a) × (w ≡ u)
 Settled (Nothing n) t u r w = (r ≡ unadded n t) × (w ≡ (beginner t).report)
 
 -- ---- the report

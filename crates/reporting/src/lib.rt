@@ -1,5 +1,5 @@
-// The report program (FORMAT 22.10): the segments that its arguments name, and the report over them on
-// standard output. No contract says what is read and written; the comparison with the second
+// The report program (FORMAT 22.10): the segments that its arguments name, and the report over them
+// on standard output. No contract says what is read and written; the comparison with the second
 // program tests it. What is added, and every answer, are those of `log_report`.
 #![tactic(auto)]
 
@@ -10,13 +10,13 @@ mod names;
 ghost use Rattle.std.specs.Prelude.{◌≡◌, IfOk};
 ghost use Rattle.reporting.specs.Choices.{going_on, all_taken};
 
-use files::{UNREAD, add_file, refuse};
+use files::{add_file, refuse};
 use names::version_in;
 use report_format::{NIGHT_LIMIT, Reported};
 use std::env::FillError;
 use std::io;
 use std::rt::{Env, Files};
-use wal_types::VersionFound;
+use wal_types::Refusal;
 
 // Whether the report has not ended.
 fn goes_on(report: &[u64; 1284]) -> bool
@@ -72,22 +72,14 @@ fn add_argument<R: Env + Files>(
         return None;
     }
     if has_all(report) {
-        return Some(refuse(UNREAD, report));
+        return Some(refuse(Refusal::BadName, report));
     }
     let Ok(length) = argument else {
-        return Some(refuse(UNREAD, report));
+        return Some(refuse(Refusal::BadName, report));
     };
     let version = version_in(&path[..length]);
     match version {
-        VersionFound::Known(known) => Some(add_file(
-            rt,
-            table,
-            known,
-            &path[..length],
-            page,
-            buffer,
-            report,
-        )),
-        VersionFound::Unknown => Some(refuse(UNREAD, report)),
+        Some(known) => Some(add_file(rt, table, known, &path[..length], page, buffer, report)),
+        None => Some(refuse(Refusal::BadName, report)),
     }
 }

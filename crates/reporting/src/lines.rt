@@ -30,7 +30,7 @@ pub(crate) fn segment<W: Write>(out: &mut W, position: usize, answer: Reported) 
     }
     print::text(out, b"segment")?;
     print::field(out, position as u64)?;
-    print::field(out, answer.number as u64)?;
+    print::field(out, u64::from(answer.number))?;
     print::field(out, answer.place)?;
     print::end_line(out)
 }
@@ -47,21 +47,12 @@ fn shown_at(report: &[u64; 1284], row: usize) -> Shown
     ensures { result ≡ shown (get_or (lines report.now) row (fresh 0)) }
 {
     let at = row * 5 + 4;
-    let second = at + 1;
-    let third = at + 2;
-    let fourth = at + 3;
-    let fifth = at + 4;
-    let id = report[at];
-    let rows = report[second];
-    let nans = report[third];
-    let smallest = report[fourth];
-    let largest = report[fifth];
     Shown {
-        id,
-        rows,
-        nans,
-        smallest,
-        largest,
+        id: report[at],
+        rows: report[at + 1],
+        nans: report[at + 2],
+        smallest: report[at + 3],
+        largest: report[at + 4],
     }
 }
 
@@ -87,14 +78,9 @@ fn series<W: Write>(out: &mut W, line: Shown) -> io::Result<()> {
 
 // A line for each series, as first met.
 pub(crate) fn all_series<W: Write>(out: &mut W, report: &[u64; 1284]) -> io::Result<()> {
-    let count = report[0];
-    let mut row: usize = 0;
-    while row < SERIES_LIMIT {
-        if (row as u64) < count {
-            let line = shown_at(report, row);
-            series(out, line)?;
-        }
-        row += 1;
+    let count = report[0].min(SERIES_LIMIT as u64) as usize;
+    for row in 0..count {
+        series(out, shown_at(report, row))?;
     }
     Ok(())
 }

@@ -2,8 +2,8 @@
 ghost use Rattle.std.specs.Prelude.{◌≡◌, ◌≤◌, length};
 ghost use Rattle.reporting.specs.Paths.{last_part, after_slash, version_in, version_named};
 
-use name_format::ParseAnswer;
-use wal_types::VersionFound;
+use name_format::Name;
+use wal_types::{Refusal, Version};
 
 const SLASH: u8 = 47;
 
@@ -11,39 +11,26 @@ const SLASH: u8 = 47;
 fn part_start(path: &[u8]) -> usize
     ensures { (result ≡ after_slash path.now (length path.now)) × (result ≤ length path.now) }
 {
-    let mut i = path.len();
-    while 0 < i {
-        let last = i - 1;
-        if path[last] == SLASH {
-            return i;
-        }
-        i = last;
+    match path.iter().rposition(|byte| *byte == SLASH) {
+        Some(i) => i + 1,
+        None => 0,
     }
-    0
 }
 
 // The version that a name says, if it is a segment's.
-fn named(answer: ParseAnswer) -> VersionFound
+fn named(answer: Result<Name, Refusal>) -> Option<Version>
     ensures { result ≡ version_named answer }
 {
     match answer {
-        ParseAnswer::Name {
-            sequence: _,
-            version,
-        } => {
-            if version == 1 {
-                return VersionFound::Known(wal_types::Version::One);
-            }
-            VersionFound::Known(wal_types::Version::Two)
-        }
-        ParseAnswer::Refused(_) => VersionFound::Unknown,
+        Ok(Name { version: 1, .. }) => Some(Version::One),
+        Ok(_) => Some(Version::Two),
+        Err(_) => None,
     }
 }
 
-pub(crate) fn version_in(path: &[u8]) -> VersionFound
+pub(crate) fn version_in(path: &[u8]) -> Option<Version>
     ensures { result ≡ version_in path.now }
 {
     let start = part_start(path);
-    let answer = segment_name::parse(&path[start..]);
-    named(answer)
+    named(segment_name::parse(&path[start..]))
 }

@@ -7,7 +7,7 @@ use Rattle.segment_format.specs.Reading.{left}
 use Rattle.segment_format.specs.Writing.{fragments, place_after, next_place}
 use Rattle.segment_format.specs.Calls.{writer, final_place}
 use Rattle.segment_format.specs.Claims.{Fits}
-use Rattle.size_format.specs.declared.PagesAnswer.TheVariants.{Pages}
+use Rattle.size_format.specs.Results.PagesAnswer.{Pages}
 use Rattle.size_format.specs.Size.{total, size_for, pages_of, pages_for}
 use Rattle.size_format.proofs.Laws.{fragments-number, place_from, fits-place}
 

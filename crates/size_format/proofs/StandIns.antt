@@ -3,18 +3,18 @@
 -- Assumes nothing.
 use Rattle.std.proofs.Math.Path.{◌≡◌, refl}
 use Rattle.std.specs.Prelude.{List, [], ◌∷◌, ℕ, zero, suc, ◌+◌, ◌*◌, ◌-◌, ◌%◌, ◌^◌, ◌≤◌, length, replicate}
-use native.Mathlib.Omega.{arith}
+use Rattle.std.proofs.Common.{arith}
 use Rattle.std.proofs.lemmas.List.{length-replicate}
 use Rattle.wal_types.specs.declared.Refusal.TheVariants.{NoRoom}
 use Rattle.wal_types.specs.Terms.{offset}
-use Rattle.segment_format.specs.declared.WriteAnswer.{WriteAnswer}
-use Rattle.segment_format.specs.declared.WriteAnswer.TheVariants.{Next, Refused as WriteRefused}
+use Rattle.segment_format.specs.Results.WriteAnswer.{WriteAnswer}
+use Rattle.segment_format.specs.Results.WriteAnswer.{Next, Refused as WriteRefused}
 use Rattle.segment_format.specs.Reading.{left}
 use Rattle.segment_format.specs.Writing.{judge, split, fragments, place_after, next_place, accepted}
 use Rattle.segment_format.specs.Calls.{Writer, writer, final_place}
 use Rattle.segment_format.proofs.Laws.Room.{accepted-room}
-use Rattle.size_format.specs.declared.PagesAnswer.{PagesAnswer}
-use Rattle.size_format.specs.declared.PagesAnswer.TheVariants.{Pages, Refused}
+use Rattle.size_format.specs.Results.PagesAnswer.{PagesAnswer}
+use Rattle.size_format.specs.Results.PagesAnswer.{Pages, Refused}
 use Rattle.size_format.specs.Size.{total, size_for, pages_of, pages_for, SizeCalls}
 use Rattle.size_format.specs.Claims.{HeldIn, Sizes}
 

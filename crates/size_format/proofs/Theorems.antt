@@ -1,8 +1,7 @@
 -- The format's writer and `pages_for` keep the claim, for every checksum.
 -- Assumes nothing.
-use Rattle.std.specs.Prelude.{◌≡◌, refl, Bool, true, false, cond, ℕ, zero, suc, ◌+◌, ◌*◌, ◌/◌, ◌≤◌, ◌<◌, length, ltb, eqb}
-use mathlib.Core.List.{List, [], ◌∷◌}
-use Rattle.std.proofs.Common.{arith, ltb-true, ltb-false, eqb-true}
+use Rattle.std.specs.Prelude.{◌≡◌, refl, Bool, true, false, cond, ℕ, suc, ◌+◌, ◌*◌, ◌≤◌, ◌<◌, length, ltb, eqb}
+use Rattle.std.proofs.Common.{arith, ltb-true, ltb-false, eqb-true, List, [], ◌∷◌}
 use Rattle.std.proofs.lemmas.Bool.{eqb-false}
 use Rattle.wal_types.specs.declared.Refusal.{Refusal}
 use Rattle.wal_types.specs.declared.Refusal.TheVariants.{NoRoom}
@@ -11,7 +10,7 @@ use Rattle.segment_format.specs.Calls.{writer}
 use Rattle.segment_format.proofs.Laws.Lists.{cond_ind}
 use Rattle.segment_format.proofs.Laws.Splitting.{fragments-four}
 use Rattle.segment_format.proofs.Laws.Room.{Room, accepted-room}
-use Rattle.size_format.specs.declared.PagesAnswer.TheVariants.{Pages, Refused}
+use Rattle.size_format.specs.Results.PagesAnswer.{Pages, Refused}
 use Rattle.size_format.specs.Size.{total, size_for, pages_of, pages_for, size_calls}
 use Rattle.size_format.specs.Claims.{HeldIn, Sizes}
 use Rattle.size_format.proofs.Laws.{place-exact, place-most, place-least, fits-place, fits_inside, fits-from}

@@ -1,9 +1,9 @@
 // The lines that the program prints.
 use print::{field, text};
-use segment_format::Good;
+use segment_format::{Good, Record};
 use std::io;
 use std::io::Write;
-use wal_types::{Offset, Refusal};
+use wal_types::Refusal;
 
 pub(crate) fn opened<W: Write>(out: &mut W, length: usize) -> io::Result<()> {
     text(out, b"segment")?;
@@ -11,20 +11,11 @@ pub(crate) fn opened<W: Write>(out: &mut W, length: usize) -> io::Result<()> {
     text(out, b"\n")
 }
 
-pub(crate) fn yielded<W: Write>(
-    out: &mut W,
-    start: Offset,
-    length: usize,
-    next: Offset,
-) -> io::Result<()> {
+pub(crate) fn yielded<W: Write>(out: &mut W, record: Record) -> io::Result<()> {
     text(out, b"record")?;
-    field(out, start.0 as u64)?;
-    field(out, length as u64)?;
-    field(out, next.0 as u64)
-}
-
-pub(crate) fn ended<W: Write>(out: &mut W) -> io::Result<()> {
-    text(out, b"end")
+    field(out, record.start.0 as u64)?;
+    field(out, record.length as u64)?;
+    field(out, record.next.0 as u64)
 }
 
 pub(crate) fn refused<W: Write>(out: &mut W, why: Refusal) -> io::Result<()> {

@@ -17,13 +17,12 @@
 
 mod lines;
 
+use print::text;
 use segment_cursor::Spot;
-use segment_format::{Good, ReadAnswer, WriteAnswer};
+use segment_format::Good;
 use std::io;
 use std::io::Write;
 use wal_types::{Offset, Version};
-
-const RECORDS: usize = 8;
 
 const LENGTHS: [usize; 8] = [1, 1, 37, 32697, 32754, 40000, 25507, 1];
 
@@ -45,35 +44,25 @@ fn main(rt: HostRuntime) -> io::Result<()> {
 
 // Byte i becomes i modulo 256.
 fn count_up(bytes: &mut [u8]) {
-    let mut i = 0;
-    while i < bytes.len() {
-        bytes[i] = (i % 256) as u8;
-        i += 1;
+    for (i, byte) in bytes.iter_mut().enumerate() {
+        *byte = (i % 256) as u8;
     }
 }
 
 fn write_records(segment: &mut [u8], bytes: &[u8]) {
-    let lengths = LENGTHS;
     let mut place = Offset(0);
-    let mut k = 0;
-    while k < RECORDS {
-        let length = lengths[k];
+    for length in LENGTHS {
         place = write_record(segment, place, bytes, length);
-        k += 1;
     }
 }
 
 // Writes the first `length` bytes as a record, and returns the place for the next write; where
 // there is no room, the place given.
 fn write_record(segment: &mut [u8], place: Offset, bytes: &[u8], length: usize) -> Offset {
-    if bytes.len() < length {
+    let Some(record) = bytes.get(..length) else {
         return place;
-    }
-    let answer = segment_writer::write(Version::One, segment, place, &bytes[..length]);
-    match answer {
-        WriteAnswer::Next(next) => next,
-        WriteAnswer::Refused(_) => place,
-    }
+    };
+    segment_writer::write(Version::One, segment, place, record).unwrap_or(place)
 }
 
 // Reads the segment cut after `length` bytes.
@@ -83,10 +72,10 @@ fn read_cut<W: Write>(
     length: usize,
     buffer: &mut [u8],
 ) -> io::Result<()> {
-    if segment.len() < length {
-        return Ok(());
+    match segment.get(..length) {
+        Some(front) => read_records(out, front, buffer),
+        None => Ok(()),
     }
-    read_records(out, &segment[..length], buffer)
 }
 
 fn read_records<W: Write>(out: &mut W, segment: &[u8], buffer: &mut [u8]) -> io::Result<()> {
@@ -99,11 +88,9 @@ fn read_records<W: Write>(out: &mut W, segment: &[u8], buffer: &mut [u8]) -> io:
             offset: Offset(0),
         },
     };
-    let mut k = 0;
-    while k < READS {
+    for _ in 0..READS {
         let step = segment_cursor::read_on(segment, spot, buffer);
         spot = print_step(out, step)?;
-        k += 1;
     }
     Ok(())
 }
@@ -111,17 +98,11 @@ fn read_records<W: Write>(out: &mut W, segment: &[u8], buffer: &mut [u8]) -> io:
 // Prints what a read answered and its good length, and returns where the next one is.
 fn print_step<W: Write>(out: &mut W, step: segment_cursor::Advance) -> io::Result<Spot> {
     let read = step.read;
-    let answer = read.answer;
-    match answer {
-        ReadAnswer::Record {
-            start,
-            length,
-            next,
-        } => lines::yielded(out, start, length, next)?,
-        ReadAnswer::End => lines::ended(out)?,
-        ReadAnswer::Refused(why) => lines::refused(out, why)?,
+    match read.answer {
+        Ok(Some(record)) => lines::yielded(out, record)?,
+        Ok(None) => text(out, b"end")?,
+        Err(why) => lines::refused(out, why)?,
     }
-    let good = read.good;
-    lines::good(out, good)?;
+    lines::good(out, read.good)?;
     Ok(step.spot)
 }

@@ -1,127 +1,79 @@
 // The bytes of a case. An item, `HH` or `HH*N`, is taken with the byte that ends it: a space, or
 // the newline after the last.
-ghost use Rattle.std.specs.Prelude.{◌≤◌, length};
+ghost use Rattle.std.specs.Prelude.{◌<◌, ◌≤◌, IfSome, length};
 ghost use Rattle.test_damage.specs.Fits.{Fits};
-
-use crate::search::behind_first;
-use numbers::wide;
 
 // The longest segment of the table.
 pub(crate) const SEGMENT_MAX: usize = 131072;
 
-// How many bytes, or how many times a byte.
-#[derive(Clone, Copy)]
-pub(crate) enum Count {
-    Of(usize),
-    Malformed,
-}
-
 // Stores the bytes of all items in the segment and returns their number; too many are malformed.
-pub(crate) fn expand(items: &[u8], segment: &mut [u8]) -> Count
+pub(crate) fn expand(items: &[u8], segment: &mut [u8]) -> Option<usize>
     ensures { Fits result (length segment.old) }
 {
-    if !ends(items) {
-        return Count::Malformed;
+    if !items.ends_with(b"\n") {
+        return None;
     }
-    let mut at = 0;
     let mut used = 0;
-    while at < items.len() {
-        let next = behind_first(items, at, b' ');
-        let Count::Of(n) = put(&items[at..next], segment, used) else {
-            return Count::Malformed;
-        };
-        used = n;
-        at = next;
+    for item in items.split_inclusive(|b| *b == b' ') {
+        used = put(item, segment, used)?;
     }
-    Count::Of(used)
-}
-
-// Whether the items end with a newline.
-fn ends(items: &[u8]) -> bool {
-    if items.len() == 0 {
-        return false;
-    }
-    let last = items.len() - 1;
-    items[last] == b'\n'
+    Some(used)
 }
 
 // Stores the bytes of one item at a place of the segment, and returns the place after them.
-fn put(item: &[u8], segment: &mut [u8], at: usize) -> Count
+fn put(item: &[u8], segment: &mut [u8], at: usize) -> Option<usize>
     requires { at ≤ length segment.old }
     ensures { Fits result (length segment.old) }
 {
-    if item.len() < 3 {
-        return Count::Malformed;
-    }
-    let byte = digit(item[0]) * 16 + digit(item[1]);
-    if 255 < byte {
-        return Count::Malformed;
-    }
-    let Count::Of(times) = times(item) else {
-        return Count::Malformed;
+    let [high, low, rest @ ..] = item else {
+        return None;
     };
-    if segment.len() - at < times {
-        return Count::Malformed;
+    let byte = digit(*high)? * 16 + digit(*low)?;
+    let count = times(rest)?;
+    if segment.len() - at < count {
+        return None;
     }
-    let next = at + times;
-    fill(segment, at, next, byte as u8);
-    Count::Of(next)
+    let end = at + count;
+    segment[at..end].fill(byte);
+    Some(end)
 }
 
-// How many times an item has its byte.
-fn times(item: &[u8]) -> Count
-    requires { 3 ≤ length item.now }
-{
-    let last = item.len() - 1;
-    if last == 2 {
-        return Count::Of(1);
+// How many times an item has its byte, by what follows that.
+fn times(rest: &[u8]) -> Option<usize> {
+    match rest {
+        [_] => Some(1),
+        [b'*', digits @ .., _] => decimal(digits),
+        _ => None,
     }
-    if item[2] != b'*' {
-        return Count::Malformed;
-    }
-    decimal(&item[3..last])
 }
 
 // A number of one digit or more. One above the longest segment is malformed, so no sum wraps.
-fn decimal(digits: &[u8]) -> Count {
-    if digits.len() == 0 {
-        return Count::Malformed;
+fn decimal(digits: &[u8]) -> Option<usize> {
+    if digits.is_empty() {
+        return None;
     }
-    let mut n = 0;
-    let mut i = 0;
-    while i < digits.len() {
-        let d = digit(digits[i]);
+    let mut n: usize = 0;
+    for c in digits {
+        let d = digit(*c)?;
         if 9 < d {
-            return Count::Malformed;
+            return None;
         }
-        n = n * 10 + d;
+        n = n * 10 + usize::from(d);
         if SEGMENT_MAX < n {
-            return Count::Malformed;
+            return None;
         }
-        i += 1;
     }
-    Count::Of(n)
+    Some(n)
 }
 
-// A hexadecimal digit. Any other byte gives 256, so that it makes no byte with any digit.
-fn digit(c: u8) -> usize
-    ensures { result ≤ 256 }
+// A hexadecimal digit.
+fn digit(c: u8) -> Option<u8>
+    ensures { IfSome result (λ d. d < 16) }
 {
     match c {
-        b'0'..=b'9' => wide(c) - 48,
-        b'A'..=b'F' => wide(c) - 55,
-        b'a'..=b'f' => wide(c) - 87,
-        _ => 256,
-    }
-}
-
-// Sets every byte from one place up to another to `byte`.
-fn fill(segment: &mut [u8], from: usize, to: usize, byte: u8)
-    requires { to ≤ length segment.old }
-{
-    let mut i = from;
-    while i < to {
-        segment[i] = byte;
-        i += 1;
+        b'0'..=b'9' => Some(c - b'0'),
+        b'A'..=b'F' => Some(c - b'A' + 10),
+        b'a'..=b'f' => Some(c - b'a' + 10),
+        _ => None,
     }
 }

@@ -6,10 +6,8 @@
 mod items;
 mod search;
 
-ghost use Rattle.std.specs.Prelude.{◌<◌, length};
-
 use full_read::read_full;
-use items::{Count, SEGMENT_MAX};
+use items::SEGMENT_MAX;
 use print::text;
 use std::io;
 use std::io::Write;
@@ -32,32 +30,27 @@ fn main(rt: HostRuntime) -> io::Result<()> {
 
 // Every line that is no comment. A line is taken with its newline.
 fn answer_cases<W: Write>(out: &mut W, table: &[u8], segment: &mut [u8]) -> io::Result<()> {
-    let mut at = 0;
-    while at < table.len() {
-        let next = search::behind_first(table, at, b'\n');
-        if table[at] != b'#' {
-            answer_case(out, &table[at..next], segment)?;
+    for line in table.split_inclusive(|b| *b == b'\n') {
+        if !line.starts_with(b"#") {
+            answer_case(out, line, segment)?;
         }
-        at = next;
     }
     Ok(())
 }
 
 // Prints the line with the answer of this library in place of its own. A malformed line is printed
 // with words before it, so that it differs from the table.
-fn answer_case<W: Write>(out: &mut W, line: &[u8], segment: &mut [u8]) -> io::Result<()>
-    requires { 0 < length line.now }
-{
-    let name = search::behind_first(line, 0, b';');
+fn answer_case<W: Write>(out: &mut W, line: &[u8], segment: &mut [u8]) -> io::Result<()> {
+    let name = search::behind_first(line, b';');
     let bytes = search::behind_last(line);
     match items::expand(&line[bytes..], segment) {
-        Count::Of(n) => {
+        Some(n) => {
             text(out, &line[..name])?;
             text(out, b" ")?;
             listing::list(out, &segment[..n], b"; ")?;
             text(out, &line[bytes..])
         }
-        Count::Malformed => {
+        None => {
             text(out, b"malformed or too long: ")?;
             text(out, line)
         }

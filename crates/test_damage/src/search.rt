@@ -1,31 +1,25 @@
 // Where the parts of a line begin and end.
-ghost use Rattle.std.specs.Prelude.{◌<◌, ◌≤◌, length};
+ghost use Rattle.std.specs.Prelude.{◌≤◌, length};
 
-// The place after the first `byte` at `from` or later; if there is none, the end.
-pub(crate) fn behind_first(s: &[u8], from: usize, byte: u8) -> usize
-    requires { from < length s.now }
-    ensures { (from < result) × (result ≤ length s.now) }
+// The place after the first `byte`; if there is none, the end.
+pub(crate) fn behind_first(s: &[u8], byte: u8) -> usize
+    ensures { result ≤ length s.now }
 {
-    let mut i = from;
-    while i < s.len() {
-        if s[i] == byte {
-            return i + 1;
-        }
-        i += 1;
+    match s.iter().position(|b| *b == byte) {
+        Some(i) => i + 1,
+        None => s.len(),
     }
-    i
 }
 
 // The place after the last semicolon and the space that follows it; if there is none, the end.
 pub(crate) fn behind_last(s: &[u8]) -> usize
     ensures { result ≤ length s.now }
 {
-    let mut i = s.len();
-    while 2 <= i {
-        if s[i - 2] == b';' {
-            return i;
-        }
-        i -= 1;
+    let Some((_, front)) = s.split_last() else {
+        return 0;
+    };
+    match front.iter().rposition(|b| *b == b';') {
+        Some(i) => i + 2,
+        None => s.len(),
     }
-    s.len()
 }

@@ -2,13 +2,13 @@
 ghost use Rattle.std.specs.Prelude.{◌≡◌};
 ghost use Rattle.body_samples.specs.Filling.{samples_in, fill_answer, list_after};
 
-use body_samples::{FillAnswer, Sample};
-use wal_types::{SeriesId, Timestamp};
+use body_samples::Sample;
+use wal_types::{Refusal, SeriesId, Timestamp};
 
 // What filling answered, and the list afterwards.
 #[derive(Clone, Copy)]
 pub(crate) struct Filled {
-    pub(crate) answer: FillAnswer,
+    pub(crate) answer: Result<usize, Refusal>,
     pub(crate) list: [Sample; 4],
 }
 
@@ -29,5 +29,5 @@ pub(crate) fn nines() -> [Sample; 4] {
         time: Timestamp(9),
         bits: 9,
     };
-    [nine, nine, nine, nine]
+    [nine; 4]
 }

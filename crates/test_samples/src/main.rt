@@ -115,11 +115,9 @@ fn long_and_cut<W: Write>(out: &mut W) -> io::Result<()> {
 
 fn show<W: Write>(out: &mut W, body: &[u8]) -> io::Result<()> {
     let filled = list::fill(body, list::nines());
-    let answer = filled.answer;
-    lines::answered(out, body.len(), answer)?;
-    let list = filled.list;
-    lines::sample(out, list[0])?;
-    lines::sample(out, list[1])?;
-    lines::sample(out, list[2])?;
-    lines::sample(out, list[3])
+    lines::answered(out, body.len(), filled.answer)?;
+    for sample in filled.list {
+        lines::sample(out, sample)?;
+    }
+    Ok(())
 }

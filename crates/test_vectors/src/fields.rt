@@ -3,7 +3,7 @@ ghost use Rattle.std.specs.Prelude.{◌≤◌};
 
 use std::io;
 use std::io::Write;
-use uvarint::UvarintRead;
+use uvarint::VarintError;
 
 // RFC 3720, appendix B.4: a SCSI read command, 48 bytes.
 const READ_COMMAND: [u8; 48] = [
@@ -56,7 +56,7 @@ fn doubled(n: u64, most: u64) -> u64
 // 2^k - 1, 2^k and 2^k + 1 for k from 0 to 63, and 2^64 - 1.
 pub(crate) fn uvarints<W: Write>(out: &mut W) -> io::Result<()> {
     let mut power: u64 = 1;
-    for k in 0u64..64 {
+    for _ in 0..64u64 {
         uvarint(out, power - 1)?;
         uvarint(out, power)?;
         uvarint(out, power + 1)?;
@@ -81,7 +81,7 @@ fn uvarint<W: Write>(out: &mut W, n: u64) -> io::Result<()> {
 // zigzags, so that these are tried both ways.
 pub(crate) fn varints<W: Write>(out: &mut W) -> io::Result<()> {
     let mut power: u64 = 1;
-    for k in 0u64..63 {
+    for _ in 0..63u64 {
         varint(out, power * 2 - 2)?;
         varint(out, power * 2)?;
         varint(out, power * 2 - 1)?;
@@ -140,19 +140,19 @@ fn reading_ten<W: Write>(out: &mut W, nine: u8, tenth: u8) -> io::Result<()> {
 
 fn reading<W: Write>(out: &mut W, data: &[u8]) -> io::Result<()> {
     print::text(out, b"read ")?;
-    if data.len() == 0 {
+    if data.is_empty() {
         print::text(out, b"-")?;
     }
     print::bytes(out, data, data.len())?;
     match uvarint::get_uvarint(data, 0) {
-        UvarintRead::Value { n, len } => {
+        Ok((n, len)) => {
             print::text(out, b" value ")?;
             print::number(out, n)?;
             print::space(out)?;
             print::number(out, len as u64)?;
         }
-        UvarintRead::Short => print::text(out, b" short")?,
-        UvarintRead::BadVarint => print::text(out, b" bad")?,
+        Err(VarintError::Short) => print::text(out, b" short")?,
+        Err(VarintError::BadVarint) => print::text(out, b" bad")?,
     }
     print::end_line(out)
 }

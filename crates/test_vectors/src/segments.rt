@@ -3,8 +3,7 @@
 ghost use Rattle.std.specs.Prelude.{◌≡◌, ◌<◌, length};
 
 use crate::fields::checksum_digits;
-use numbers::wide;
-use segment_format::{Good, ReadAnswer, WriteAnswer};
+use segment_format::{Good, Record};
 use std::io;
 use std::io::Write;
 use wal_types::{Offset, Refusal, Version};
@@ -107,33 +106,30 @@ fn pattern() -> [u8; 65537]
     ensures { 65537 ≡ length result }
 {
     let mut bytes = [0u8; 65537];
-    let mut i: usize = 0;
-    while i < 65537 {
-        bytes[i] = (i % 256) as u8;
-        i += 1;
+    for (i, byte) in bytes.iter_mut().enumerate() {
+        *byte = (i % 256) as u8;
     }
     bytes
 }
 
 fn write<W: Write>(out: &mut W, slice: &mut [u8], place: usize, count: usize) -> io::Result<()> {
     let bytes = pattern();
-    if 65537 < count {
+    let Some(record) = bytes.get(..count) else {
         return Ok(());
-    }
+    };
     print::text(out, b"write ")?;
     print::number(out, place as u64)?;
     print::space(out)?;
     print::number(out, count as u64)?;
     print::text(out, b" -> ")?;
-    let answer = segment_writer::write(Version::One, slice, Offset(place), &bytes[..count]);
-    match answer {
-        WriteAnswer::Next(next) => {
+    match segment_writer::write(Version::One, slice, Offset(place), record) {
+        Ok(next) => {
             print::text(out, b"next ")?;
             print::number(out, next.0 as u64)?;
             print::end_line(out)?;
             fragments(out, slice, place)
         }
-        WriteAnswer::Refused(why) => refused(out, why),
+        Err(why) => refused(out, why),
     }
 }
 
@@ -143,84 +139,67 @@ fn write<W: Write>(out: &mut W, slice: &mut [u8], place: usize, count: usize) ->
 struct Header {
     kind: u8,
     count: usize,
-    // The place after the fragment; where the slice has no room for one, the place itself.
+    // The place after the fragment.
     next: usize,
 }
 
-fn header_at(slice: &[u8], place: usize) -> Header {
-    let none = Header {
-        kind: 0,
-        count: 0,
-        next: place,
+// The header at a place, where the slice has room for its fragment.
+fn header_at(slice: &[u8], place: usize) -> Option<Header> {
+    let [kind, high, low, _, _, _, _, data @ ..] = slice.get(place..)? else {
+        return None;
     };
-    if slice.len() <= place {
-        return none;
+    let count = usize::from(u16::from_be_bytes([*high, *low]));
+    if data.len() < count {
+        return None;
     }
-    let here = slice.len() - place;
-    if here < 7 {
-        return none;
-    }
-    let count = wide(slice[place + 1]) * 256 + wide(slice[place + 2]);
-    if here - 7 < count {
-        return none;
-    }
-    Header {
-        kind: slice[place],
+    Some(Header {
+        kind: *kind,
         count,
         next: place + 7 + count,
-    }
+    })
 }
 
 // The headers from a place on, up to a full or last one; no record has more than four.
 fn fragments<W: Write>(out: &mut W, slice: &[u8], place: usize) -> io::Result<()> {
     let mut at = place;
-    let mut k: usize = 0;
-    while k < 4 {
-        let header = header_at(slice, at);
+    for _ in 0..4u8 {
+        let Some(header) = header_at(slice, at) else {
+            break;
+        };
         fragment_line(out, at, header)?;
-        if ends(header.kind) {
-            return Ok(());
+        if matches!(header.kind, 1 | 4) {
+            break;
         }
         at = header.next;
-        k += 1;
     }
     Ok(())
-}
-
-fn ends(kind: u8) -> bool {
-    kind == 1 || kind == 4
 }
 
 fn fragment_line<W: Write>(out: &mut W, place: usize, header: Header) -> io::Result<()> {
     print::text(out, b"fragment ")?;
     print::number(out, place as u64)?;
     print::space(out)?;
-    print::number(out, header.kind as u64)?;
+    print::number(out, u64::from(header.kind))?;
     print::space(out)?;
     print::number(out, header.count as u64)?;
     print::end_line(out)
 }
 
 fn refused<W: Write>(out: &mut W, why: Refusal) -> io::Result<()> {
-    let place = wal_types::place(why);
     print::text(out, b"refused ")?;
-    print::number(out, wal_types::number(why) as u64)?;
+    print::number(out, u64::from(wal_types::number(why)))?;
     print::space(out)?;
-    print::number(out, place.0 as u64)?;
+    print::number(out, wal_types::place(why).0 as u64)?;
     print::end_line(out)
 }
 
 // ---- types and cuts
 
 pub(crate) fn types<W: Write>(out: &mut W) -> io::Result<()> {
-    type_line(out, 0x09)?;
-    type_line(out, 0x21)?;
-    type_line(out, 0x29)?;
-    type_line(out, 0x05)?;
-    type_line(out, 0xE0)?;
-    type_line(out, 0x18)?;
-    type_line(out, 0x03)?;
-    type_line(out, 0x04)
+    for kind in [0x09, 0x21, 0x29, 0x05, 0xE0, 0x18, 0x03, 0x04] {
+        type_line(out, kind)?;
+    }
+    Ok(())
 }
 
 // The pair that a first read is given.
@@ -237,29 +216,23 @@ fn type_line<W: Write>(out: &mut W, kind: u8) -> io::Result<()> {
     print::text(out, b"type ")?;
     print::byte(out, kind)?;
     print::text(out, b" -> ")?;
-    let none = none_yet();
-    let read = segment_reader::read(Version::One, &segment, Offset(0), &mut buffer, none);
-    let answer = read.answer;
-    answer_line(out, answer)
+    let read = segment_reader::read(Version::One, &segment, Offset(0), &mut buffer, none_yet());
+    answer_line(out, read.answer)
 }
 
-fn answer_line<W: Write>(out: &mut W, answer: ReadAnswer) -> io::Result<()> {
+fn answer_line<W: Write>(out: &mut W, answer: Result<Option<Record>, Refusal>) -> io::Result<()> {
     match answer {
-        ReadAnswer::Record {
-            start,
-            length,
-            next,
-        } => {
+        Ok(Some(record)) => {
             print::text(out, b"record ")?;
-            print::number(out, start.0 as u64)?;
+            print::number(out, record.start.0 as u64)?;
             print::space(out)?;
-            print::number(out, length as u64)?;
+            print::number(out, record.length as u64)?;
             print::space(out)?;
-            print::number(out, next.0 as u64)?;
+            print::number(out, record.next.0 as u64)?;
             print::end_line(out)
         }
-        ReadAnswer::End => print::text(out, b"end\n"),
-        ReadAnswer::Refused(why) => refused(out, why),
+        Ok(None) => print::text(out, b"end\n"),
+        Err(why) => refused(out, why),
     }
 }
 
@@ -272,42 +245,32 @@ const SWITCH: [u8; 37] = [
 pub(crate) fn cuts<W: Write>(out: &mut W) -> io::Result<()> {
     let mut slice = [0u8; 32768];
     let mut buffer = [0u8; 65536];
-    let switch = SWITCH;
-    segment_writer::write(Version::One, &mut slice, Offset(0), &switch);
-    cut(out, &slice, 44, &mut buffer)?;
-    cut(out, &slice, 43, &mut buffer)?;
-    cut(out, &slice, 7, &mut buffer)?;
-    cut(out, &slice, 6, &mut buffer)?;
-    cut(out, &slice, 1, &mut buffer)?;
-    cut(out, &slice, 0, &mut buffer)
+    let _ = segment_writer::write(Version::One, &mut slice, Offset(0), &SWITCH);
+    for count in [44, 43, 7, 6, 1, 0] {
+        cut(out, &slice, count, &mut buffer)?;
+    }
+    Ok(())
 }
 
 // Reads the first `count` bytes from the start: one record or none, and then how it ends.
 fn cut<W: Write>(out: &mut W, slice: &[u8], count: usize, buffer: &mut [u8]) -> io::Result<()> {
-    if slice.len() < count {
+    let Some(front) = slice.get(..count) else {
         return Ok(());
-    }
-    let none = none_yet();
-    let read = segment_reader::read(Version::One, &slice[..count], Offset(0), buffer, none);
-    let answer = read.answer;
-    let good = read.good;
-    cut_line(out, count, answer)?;
-    match answer {
-        ReadAnswer::Record {
-            start: _,
-            length: _,
-            next,
-        } => {
-            let second = segment_reader::read(Version::One, &slice[..count], next, buffer, good);
-            let then = second.answer;
-            cut_line(out, count, then)
-        }
-        ReadAnswer::End => Ok(()),
-        ReadAnswer::Refused(_) => Ok(()),
-    }
+    };
+    let read = segment_reader::read(Version::One, front, Offset(0), buffer, none_yet());
+    cut_line(out, count, read.answer)?;
+    let Ok(Some(record)) = read.answer else {
+        return Ok(());
+    };
+    let then = segment_reader::read(Version::One, front, record.next, buffer, read.good);
+    cut_line(out, count, then.answer)
 }
 
-fn cut_line<W: Write>(out: &mut W, count: usize, answer: ReadAnswer) -> io::Result<()> {
+fn cut_line<W: Write>(
+    out: &mut W,
+    count: usize,
+    answer: Result<Option<Record>, Refusal>,
+) -> io::Result<()> {
     print::text(out, b"cut ")?;
     print::number(out, count as u64)?;
     print::text(out, b" -> ")?;

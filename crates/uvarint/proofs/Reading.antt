@@ -1,16 +1,9 @@
 -- What `get_uvarint` finds in its first byte; the invariant of the loop in `read_groups`, and what
 -- each of its turns gives.
-use Prim.Native.Nat.{ℕ, suc, ◌+◌, ◌-◌, ◌*◌, ◌%◌, ◌^◌, ◌≤◌, ◌<◌}
-use mathlib.Core.List.{List}
-use mathlib.Core.Path.{◌≡◌, refl, sym, ap₂, ◌∙◌}
-use native.Mathlib.Nat.{mul-le-mul_right, mul_assoc, add-mul}
-use native.Mathlib.Omega.{arith}
-use borrow.Author.Tests.{lt-ltb, le-ltb, le-leb, lt-leb}
-use lib.ListN.{length, drop, get_or, drop_of_length-le}
-use lib.Pow.{pow-add, pow_mono}
-use lib.Seq.{drop-cons}
-use Rattle.uvarint.specs.declared.UvarintRead.{UvarintRead}
-use Rattle.uvarint.specs.declared.UvarintRead.TheVariants.{Value, Short, BadVarint}
+use Rattle.std.proofs.Common.{ℕ, suc, ◌+◌, ◌-◌, ◌*◌, ◌%◌, ◌^◌, ◌≤◌, ◌<◌, List, ◌≡◌, refl, length, drop, get_or, sym, ap₂, ◌∙◌, mul-le-mul_right, mul_assoc, add-mul, arith, lt-ltb, le-ltb, le-leb, drop_of_length-le, pow-add, pow_mono, drop-cons}
+use borrow.Author.Tests.{lt-leb}
+use Rattle.uvarint.specs.Results.UvarintRead.{UvarintRead}
+use Rattle.uvarint.specs.Results.UvarintRead.{Value, Short, BadVarint}
 use Rattle.uvarint.specs.Uvarint.{after, read_groups, read_uvarint}
 
 -- no byte, and a byte that is the last

@@ -1,2 +1,3 @@
+pub mod Results
 pub mod Uvarint
 pub mod UvarintLaws

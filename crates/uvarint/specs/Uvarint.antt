@@ -1,8 +1,8 @@
 -- Defines the uvarint of a number (FORMAT 8.2), and what decoding one at the front of bytes finds.
 -- To be believed. Assumes nothing.
 use Rattle.std.specs.Prelude.{ℕ, zero, suc, ◌+◌, ◌*◌, ◌/◌, ◌%◌, true, false, List, [], ◌∷◌, ltb, leb}
-use Rattle.uvarint.specs.declared.UvarintRead.{UvarintRead}
-use Rattle.uvarint.specs.declared.UvarintRead.TheVariants.{Value, Short, BadVarint}
+use Rattle.uvarint.specs.Results.UvarintRead.{UvarintRead}
+use Rattle.uvarint.specs.Results.UvarintRead.{Value, Short, BadVarint}
 
 -- seven bits a byte, lowest group first: a number below 128 is its own last byte; a larger one
 -- gives its lowest seven bits, marked by 128, and then the groups of the rest. `steps` only makes

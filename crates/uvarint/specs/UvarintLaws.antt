@@ -4,8 +4,8 @@ use Rattle.std.proofs.Common.{sym, ap, ap₂, ◌∙◌, subst, pow-suc, add-one
 use Rattle.std.proofs.Math.Nat.{one-le-pow}
 use Rattle.std.specs.Int.Count.{count_leading_zeros}
 use Rattle.std.proofs.lemmas.Nat.{leading_top}
-use Rattle.uvarint.specs.declared.UvarintRead.{UvarintRead}
-use Rattle.uvarint.specs.declared.UvarintRead.TheVariants.{Value, Short, BadVarint}
+use Rattle.uvarint.specs.Results.UvarintRead.{UvarintRead}
+use Rattle.uvarint.specs.Results.UvarintRead.{Value, Short, BadVarint}
 use Rattle.uvarint.specs.Uvarint.{groups, uvarint, after, read_groups, read_uvarint}
 
 -- The recursion, without steps.

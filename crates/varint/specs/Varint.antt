@@ -1,10 +1,10 @@
 -- Defines the varint of a signed number (FORMAT 8.3), and what decoding one finds.
 -- To be believed. Assumes nothing.
 use Rattle.std.specs.Prelude.{ℕ, ◌+◌, ◌*◌, ◌/◌, ◌%◌, true, false, List, eqb, ℤ, pos, negsuc}
-use Rattle.uvarint.specs.declared.UvarintRead.{UvarintRead}
-use Rattle.uvarint.specs.declared.UvarintRead.TheVariants as unsigned
-use Rattle.varint.specs.declared.VarintRead.{VarintRead}
-use Rattle.varint.specs.declared.VarintRead.TheVariants.{Value, Short, BadVarint}
+use Rattle.uvarint.specs.Results.UvarintRead.{UvarintRead}
+use Rattle.uvarint.specs.Results.UvarintRead as unsigned
+use Rattle.varint.specs.Results.VarintRead.{VarintRead}
+use Rattle.varint.specs.Results.VarintRead.{Value, Short, BadVarint}
 use Rattle.uvarint.specs.Uvarint.{uvarint, read_uvarint}
 
 -- 2x for x ≥ 0, and −2x − 1 for x < 0: `negsuc n` is −(n + 1), and −2 · −(n + 1) − 1 is 2n + 1

@@ -1,12 +1,14 @@
 -- Laws of the zigzag and the varint: each way of the zigzag undoes the other, bounds, and that
 -- decoding undoes encoding.
-use Rattle.std.specs.Prelude.{ℕ, ◌+◌, ◌*◌, ◌%◌, ◌^◌, ◌<◌, Bool, true, false, List, ◌++◌, ◌≡◌, refl, eqb, ℤ, pos, negsuc, length}
+use Rattle.std.specs.Prelude.{ℕ, ◌+◌, ◌*◌, ◌%◌, ◌^◌, ◌<◌, Bool, true, false, List, ◌++◌, ◌≡◌, refl, eqb, ℤ, pos, negsuc, length, Err}
 use Rattle.std.proofs.Common.{sym, ap, ◌∙◌, arith, eq-eqb, ne_eqb, eqb-true}
 use Rattle.std.proofs.lemmas.Bool.{eqb-false}
 use Rattle.std.specs.Int.Signed.{mag}
-use Rattle.uvarint.specs.declared.UvarintRead.{UvarintRead}
-use Rattle.uvarint.specs.declared.UvarintRead.TheVariants as unsigned
-use Rattle.varint.specs.declared.VarintRead.TheVariants.{Value, Short}
+use Rattle.uvarint.specs.Results.UvarintRead.{UvarintRead}
+use Rattle.uvarint.specs.Results.UvarintRead as unsigned
+use Rattle.uvarint.specs.declared.VarintError.{VarintError}
+use Rattle.uvarint.specs.declared.VarintError.TheVariants as error
+use Rattle.varint.specs.Results.VarintRead.{Value, Short}
 use Rattle.uvarint.specs.Uvarint.{read_uvarint}
 use Rattle.uvarint.specs.UvarintLaws.{Taken, taken, read-uvarint, append-read}
 use Rattle.varint.specs.Varint.{zigzag, unzigzag, varint, signed, read_varint}
@@ -47,6 +49,12 @@ pub read-varint : (x : ℤ) (rest : List ℕ) → mag x < 2 ^ 63 → read_varint
 unfolding varint read_varint signed
 read-varint x rest h = rw (read-uvarint (zigzag x) rest (zigzag-fits x h), signed, unzigzag-zigzag)
 
+-- an error of the uvarint is that of the varint
+pub signed-err : (e : VarintError) → signed (Err e) ≡ Err e
+unfolding signed
+signed-err error.Short = refl
+signed-err error.BadVarint = refl
+
 -- a varint that was decoded: its zigzag is a uvarint that was decoded, and it is an i64
 pub taken-varint : (s : List ℕ) (x : ℤ) (len : ℕ) → read_varint s ≡ Value x len → Taken s (zigzag x) len × (mag x < 2 ^ 63)
 unfolding read_varint signed
@@ -54,8 +62,9 @@ taken-varint s x len e = go (read_uvarint s) refl e
   where
     go : (r : UvarintRead) → read_uvarint s ≡ r → signed r ≡ Value x len → Taken s (zigzag x) len × (mag x < 2 ^ 63)
     go (unsigned.Value n k) p q =
-        let u : unzigzag n ≡ x = cc in
-        let l : k ≡ len = cc in
+        let v : ◌≡◌ {A = ℤ × ℕ} (unzigzag n, k) (x, len) = cc in
+        let u : unzigzag n ≡ x = ap (λ (w : ℤ × ℕ). w.0) v in
+        let l : k ≡ len = ap (λ (w : ℤ × ℕ). w.1) v in
         let z : n ≡ zigzag x = sym (zigzag-unzigzag n) ∙ ap zigzag u in
         let t : Taken s n k = taken s n k p in
         (rw (← z, ← l) t, rw (← u) (unzigzag-fits n t.fits))

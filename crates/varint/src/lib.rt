@@ -6,27 +6,16 @@ ghost use Rattle.std.specs.Prelude.{◌≡◌, ◌≤◌, length, drop};
 ghost use Rattle.byte_copy.specs.Put.{put_at, put_end};
 ghost use Rattle.varint.specs.Varint.{zigzag, unzigzag, varint, read_varint};
 
-use uvarint::{UvarintRead, get_uvarint, put_uvarint, uvarint_len};
+use uvarint::{VarintError, get_uvarint, put_uvarint, uvarint_len};
 
-// What decoding a signed varint finds, as for a uvarint.
-#[derive(Clone, Copy)]
-pub enum VarintRead {
-    Value { x: i64, len: usize },
-    Short,
-    BadVarint,
-}
-
-// 2x for x >= 0, and -2x - 1 for x < 0. The difference -1 - x cannot wrap; -x can.
+// 2x for x >= 0, and -2x - 1 for x < 0. Doubling the bits drops the sign's; by this form the
+// compiler needs no branch.
 pub fn zigzag_of(x: i64) -> u64
     ensures { result ≡ zigzag x }
 {
-    if 0 <= x {
-        let size = x as u64;
-        size * 2
-    } else {
-        let size = (-1 - x) as u64;
-        size * 2 + 1
-    }
+    let bits = x.cast_unsigned();
+    let twice = bits.wrapping_add(bits);
+    if 0 <= x { twice } else { u64::MAX - twice }
 }
 
 // The x of which u is the zigzag.
@@ -53,16 +42,10 @@ pub fn put_varint(buf: &mut [u8], at: usize, x: i64) -> usize
     put_uvarint(buf, at, zigzag_of(x))
 }
 
-// Decodes the varint at a place of buf.
-pub fn get_varint(buf: &[u8], at: usize) -> VarintRead
+// Decodes the varint at a place of buf: the number, and how many bytes it takes.
+pub fn get_varint(buf: &[u8], at: usize) -> Result<(i64, usize), VarintError>
     ensures { result ≡ read_varint (drop at buf.now) }
 {
-    match get_uvarint(buf, at) {
-        UvarintRead::Value { n, len } => VarintRead::Value {
-            x: zigzag_back(n),
-            len,
-        },
-        UvarintRead::Short => VarintRead::Short,
-        UvarintRead::BadVarint => VarintRead::BadVarint,
-    }
+    let (n, len) = get_uvarint(buf, at)?;
+    Ok((zigzag_back(n), len))
 }

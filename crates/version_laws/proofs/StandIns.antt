@@ -2,16 +2,15 @@
 -- that tries version 1 where version 2 is refused. What was written in version 1 comes out of both.
 -- Assumes nothing.
 use Rattle.std.proofs.Math.Path.{◌≡◌, ap}
-use Rattle.std.specs.Prelude.{refl, cond, List, [], ◌∷◌, ℕ, zero, ◌≤◌, take, replicate, eqb}
-use Rattle.std.proofs.Common.{sym, ◌∙◌, subst}
-use native.Mathlib.Omega.{arith}
+use Rattle.std.specs.Prelude.{Some, Ok, refl, cond, List, [], ◌∷◌, ℕ, zero, ◌≤◌, take, replicate, eqb}
+use Rattle.std.proofs.Common.{sym, ◌∙◌, subst, arith}
 use Rattle.std.proofs.Math.ListN.{length}
 use Rattle.std.proofs.lemmas.List.{length-replicate}
 use Rattle.wal_types.specs.declared.Refusal.TheVariants.{BadSum}
 use Rattle.wal_types.specs.Refusals.{number_of}
 use Rattle.wal_types.specs.Terms.{offset}
-use Rattle.segment_format.specs.declared.ReadAnswer.{ReadAnswer}
-use Rattle.segment_format.specs.declared.ReadAnswer.TheVariants.{Record, End, Refused}
+use Rattle.segment_format.specs.Results.ReadAnswer.{ReadAnswer}
+use Rattle.segment_format.specs.Results.ReadAnswer.{End, Refused}
 use Rattle.segment_format.specs.Writing.{accepted, judge}
 use Rattle.segment_format.specs.Calls.{Reader, reader, writer, Delivered, NoRecord, Reads, Gives, final_slice, final_place, written, as_written}
 use Rattle.segment_format.specs.Calls.Reads.{next, done}
@@ -72,7 +71,7 @@ same_sum_refuses sum h =
 -- ---- version 1 where version 2 is refused
 
 abbrev number_for : ReadAnswer → ℕ
-number_for (Record start n q) = 0
+number_for (Ok (Some r)) = 0
 number_for End = 0
 number_for (Refused why) = number_of why
 

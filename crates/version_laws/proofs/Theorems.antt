@@ -5,7 +5,7 @@ use Rattle.std.proofs.Common.{sym, ◌∙◌, append-nil, arith, length-take}
 use Rattle.wal_types.specs.declared.Refusal.TheVariants.{BadSum}
 use Rattle.wal_types.specs.Terms.{offset}
 use Rattle.wal_types.specs.Sizes.{segment_limit}
-use Rattle.segment_format.specs.declared.ReadAnswer.TheVariants.{Refused}
+use Rattle.segment_format.specs.Results.ReadAnswer.{Refused}
 use Rattle.segment_format.specs.Calls.{Reader, writer, segment_calls, Gives, final_slice, final_place, written}
 use Rattle.wal_types.specs.declared.Version.TheVariants.{One, Two}
 use Rattle.segment_format.specs.Sums.{version_sum}

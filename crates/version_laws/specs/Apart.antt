@@ -6,7 +6,7 @@ use Rattle.std.specs.Prelude.{◌≡◌, List, [], ◌++◌, ℕ, ◌≤◌, len
 use Rattle.wal_types.specs.declared.Refusal.TheVariants.{BadSum}
 use Rattle.wal_types.specs.Terms.{offset}
 use Rattle.wal_types.specs.Sizes.{segment_limit}
-use Rattle.segment_format.specs.declared.ReadAnswer.TheVariants.{Refused}
+use Rattle.segment_format.specs.Results.ReadAnswer.{Refused}
 use Rattle.segment_format.specs.Calls.{Reader, Writer, SegmentCalls, Gives, final_slice, written, survivors}
 use Rattle.wal_types.specs.declared.Version.TheVariants.{One, Two}
 use Rattle.segment_format.specs.Sums.{version_sum}

@@ -1,18 +1,14 @@
 -- `get_be4` meets its contract: the number, where four bytes are present.
-use borrow.Author.Rules.{rules}
-use native.Mathlib.Omega.{arith}
-use mathlib.Core.Path.{sym, ◌∙◌}
-use lib.ListN.{length-drop}
-use Rattle.big_endian.specs.FixedLaws.{whole4, short4}
+use Rattle.std.proofs.Common.{sym, ◌∙◌, ap, arith, length-drop, drop}
+use Rattle.std.specs.Int.{w32, from_be_bytes}
+use Rattle.big_endian.specs.FixedLaws.{short4}
+use Rattle.big_endian.proofs.Bytes.{bytes_be4}
 use Rattle.big_endian.proofs.get_be4.Goals as goal
 
-pub returns-then-buf-at : goal.returns-then-buf-at
-returns-then-buf-at c = record { value = sym (short4 _ (rw length-drop (omega arith))); upper_bound = omega arith }
+pub returns-in-Some-clause-value : goal.returns-in-Some-clause-value
+returns-in-Some-clause-value c =
+    let e = c.in-Some.ensures in
+    c.from.ensures ∙ c.from_be_bytes.ensures ∙ ap (from_be_bytes w32) e.1 ∙ bytes_be4 (drop c.args.at c.args.buf.now) (rw length-drop (omega arith))
 
-pub returns-then-buf-at-lt4 : goal.returns-then-buf-at-lt4
-returns-then-buf-at-lt4 c = record { value = sym (short4 _ (rw length-drop (omega arith))); upper_bound = omega arith }
-
-pub returns : goal.returns
-returns c =
-    let v = c.read_half.ensures in
-    record { value = v.value ∙ sym (whole4 _ (rw length-drop (omega arith))); upper_bound = v.upper_bound }
+pub returns-in-None-clause-value : goal.returns-in-None-clause-value
+returns-in-None-clause-value c = sym (short4 _ (rw length-drop (omega (arith, c.in-None.ensures))))

@@ -1,9 +1,5 @@
 -- `add_metadata_from` meets its contract: the size, the gate, and then the puts.
-use native.Mathlib.Omega.{arith}
-use Prim.Native.Nat.{ℕ, ◌+◌}
-use mathlib.Core.Path.{refl}
-use mathlib.Core.List.{List, ◌∷◌, ◌++◌}
-use lib.ListN.{length-append}
+use Rattle.std.proofs.Common.{arith, ℕ, ◌+◌, refl, List, ◌∷◌, ◌++◌, length-append}
 use Rattle.uvarint.specs.Uvarint.{uvarint}
 use Rattle.body_format.specs.Entries.{metadata_entry}
 use Rattle.body_format.specs.Building.{entry_bytes}
@@ -15,24 +11,27 @@ use Rattle.body_copy.proofs.add_metadata_from.Goals.{After-admit}
 -- what the gate was asked
 asked : (c : After-admit) →
     let a = c.args in
-    Asked a.buffer.now a.body.tag a.body.used.0 (metadata_entry a.id.0 a.metric) a.from.now a.count a.first.0 (λ (l : List ℕ). uvarint a.id.0 ++ (a.metric ∷ l)) 6 c.list_size-list.result.bad (c.uvarint_len-head.result + 1 + c.list_size-list.result.size) c.admit.result
+    Asked a.buffer.now a.body.tag a.body.used.0 (metadata_entry a.id.0 a.metric) a.from.now a.count a.first.0 (λ (l : List ℕ). uvarint a.id.0 ++ (a.metric ∷ l)) (c.uvarint_len-head.result + 1) 6 c.entry_size-size.result c.admit.result
 unfolding entry_bytes
 asked c =
     let a = c.args in
-    let l = c.list_size-list.ensures in
     record {
       shape = refl;
       want_is = refl;
-      bad_is = l.0;
-      size_is = λ good. omega (arith, l.1 good, c.uvarint_len-head.ensures.value, length-append (uvarint a.id.0) (a.metric ∷ list_from a.count a.from.now a.first.0));
+      head_is = omega (arith, c.uvarint_len-head.ensures.value, length-append (uvarint a.id.0) (a.metric ∷ list_from a.count a.from.now a.first.0));
+      size_is = c.entry_size-size.ensures;
       gate = c.admit.ensures;
     }
 
 pub put_metadata-next-requires : goal.put_metadata-next-requires
-put_metadata-next-requires c = open-room _ _ _ _ _ _ _ _ _ _ _ _ (asked (goal.at.put_metadata-next-requires c).After-admit) c.in-Open.is
+put_metadata-next-requires c = open-room _ _ _ _ _ _ _ _ _ _ _ _ (asked (goal.at.put_metadata-next-requires c).After-admit) c.in_ok-admit.was
 
-pub returns-in-Open : goal.returns-in-Open
-returns-in-Open c = let both = open_done _ _ _ _ _ _ _ _ _ _ _ _ (asked (goal.at.returns-in-Open c).After-admit) c.in-Open.is _ _ c.put_metadata-next.ensures in record { answer = both.0; bytes = both.1 }
+pub returns : goal.returns
+returns c =
+    let both = open_done _ _ _ _ _ _ _ _ _ _ _ _ (asked (goal.at.returns c).After-admit) c.in_ok-admit.was _ _ c.put_metadata-next.ensures in
+    record { answer = both.0; bytes = both.1 }
 
-pub returns-in-Shut : goal.returns-in-Shut
-returns-in-Shut c = let both = shut_done _ _ _ _ _ _ _ _ _ _ _ _ (asked (goal.at.returns-in-Shut c).After-admit) c.in-Shut.is in record { answer = both.0; bytes = both.1 }
+pub returns-in_err-admit : goal.returns-in_err-admit
+returns-in_err-admit c =
+    let both = shut_done _ _ _ _ _ _ _ _ _ _ _ _ (asked (goal.at.returns-in_err-admit c).After-admit) c.in_err-admit.was _ c.from_residual.ensures.1 in
+    record { answer = both.0; bytes = both.1 }

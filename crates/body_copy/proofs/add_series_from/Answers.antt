@@ -1,9 +1,5 @@
 -- `add_series_from` meets its contract: the size, the gate, and then the puts.
-use native.Mathlib.Omega.{arith}
-use Prim.Native.Nat.{ℕ, ◌+◌}
-use mathlib.Core.List.{List, ◌++◌}
-use mathlib.Core.Path.{refl}
-use lib.ListN.{length-append}
+use Rattle.std.proofs.Common.{arith, ℕ, List, ◌++◌, refl, length-append}
 use Rattle.big_endian.specs.Fixed.{be8}
 use Rattle.big_endian.specs.FixedLaws.{length-be8}
 use Rattle.body_format.specs.Entries.{series_entry}
@@ -16,24 +12,27 @@ use Rattle.body_copy.proofs.add_series_from.Goals.{After-admit}
 -- what the gate was asked
 asked : (c : After-admit) →
     let a = c.args in
-    Asked a.buffer.now a.body.tag a.body.used.0 (series_entry a.id.0) a.from.now a.count a.first.0 (λ (l : List ℕ). be8 a.id.0 ++ l) 1 c.list_size-list.result.bad (8 + c.list_size-list.result.size) c.admit.result
+    Asked a.buffer.now a.body.tag a.body.used.0 (series_entry a.id.0) a.from.now a.count a.first.0 (λ (l : List ℕ). be8 a.id.0 ++ l) 8 1 c.entry_size-size.result c.admit.result
 unfolding entry_bytes
 asked c =
     let a = c.args in
-    let l = c.list_size-list.ensures in
     record {
       shape = refl;
       want_is = refl;
-      bad_is = l.0;
-      size_is = λ good. omega (arith, l.1 good, length-be8 a.id.0, length-append (be8 a.id.0) (list_from a.count a.from.now a.first.0));
+      head_is = omega (arith, length-be8 a.id.0, length-append (be8 a.id.0) (list_from a.count a.from.now a.first.0));
+      size_is = c.entry_size-size.ensures;
       gate = c.admit.ensures;
     }
 
 pub put_series-next-requires : goal.put_series-next-requires
-put_series-next-requires c = open-room _ _ _ _ _ _ _ _ _ _ _ _ (asked (goal.at.put_series-next-requires c).After-admit) c.in-Open.is
+put_series-next-requires c = open-room _ _ _ _ _ _ _ _ _ _ _ _ (asked (goal.at.put_series-next-requires c).After-admit) c.in_ok-admit.was
 
-pub returns-in-Open : goal.returns-in-Open
-returns-in-Open c = let both = open_done _ _ _ _ _ _ _ _ _ _ _ _ (asked (goal.at.returns-in-Open c).After-admit) c.in-Open.is _ _ c.put_series-next.ensures in record { answer = both.0; bytes = both.1 }
+pub returns : goal.returns
+returns c =
+    let both = open_done _ _ _ _ _ _ _ _ _ _ _ _ (asked (goal.at.returns c).After-admit) c.in_ok-admit.was _ _ c.put_series-next.ensures in
+    record { answer = both.0; bytes = both.1 }
 
-pub returns-in-Shut : goal.returns-in-Shut
-returns-in-Shut c = let both = shut_done _ _ _ _ _ _ _ _ _ _ _ _ (asked (goal.at.returns-in-Shut c).After-admit) c.in-Shut.is in record { answer = both.0; bytes = both.1 }
+pub returns-in_err-admit : goal.returns-in_err-admit
+returns-in_err-admit c =
+    let both = shut_done _ _ _ _ _ _ _ _ _ _ _ _ (asked (goal.at.returns-in_err-admit c).After-admit) c.in_err-admit.was _ c.from_residual.ensures.1 in
+    record { answer = both.0; bytes = both.1 }

@@ -1,8 +1,6 @@
 -- `put_metadata` meets its contract: the id, the metric type, and then the list.
-use native.Mathlib.Omega.{arith}
-use mathlib.Core.Path.{ap, ◌∙◌}
-use lib.ListN.{length}
-use lib.Seq.{length-sets}
+use Rattle.std.proofs.Common.{arith, ap, ◌∙◌, length}
+use Rattle.std.proofs.Math.Seq.{length-sets}
 use Rattle.body_builder.proofs.Laying.{byte_room, byte_then, byte_laid}
 use Rattle.body_copy.specs.Forms.{list_from}
 use Rattle.body_copy.proofs.put_metadata.Goals as goal

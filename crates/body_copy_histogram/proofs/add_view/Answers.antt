@@ -1,7 +1,5 @@
 -- `add_view` meets its contract: the size, the gate, and then the puts.
-use native.Mathlib.Omega.{arith}
-use Prim.Native.Nat.{◌+◌}
-use lib.ListN.{length}
+use Rattle.std.proofs.Common.{arith, ◌+◌, length}
 use Rattle.body_builder.specs.Laws.Additions.{Sized, exact}
 use Rattle.body_copy_histogram.specs.Forms.{view_bytes}
 use Rattle.body_copy_histogram.proofs.Parts.{view_parts, parts_sized, open-room, open_done, shut_done}
@@ -21,10 +19,12 @@ overflow_add-size c = omega (arith, c.front_len-front.ensures.1, c.lists_size-li
 pub put_view-next-requires : goal.put_view-next-requires
 put_view-next-requires c =
     let a = c.args in
-    open-room _ _ _ _ _ (view_bytes a.buffer.now a.body.used.0 a.kind a.from.now a.view) _ c.admit.ensures (sized (goal.at.put_view-next-requires c).After-lists_size-lists) c.in-Open.is
+    open-room _ _ _ _ _ (view_bytes a.buffer.now a.body.used.0 a.kind a.from.now a.view) _ c.admit.ensures (sized (goal.at.put_view-next-requires c).After-lists_size-lists) c.in_ok-admit.was
 
-pub returns-in-Open : goal.returns-in-Open
-returns-in-Open c = λ e tag bytes. open_done _ _ _ _ _ _ _ c.admit.ensures (sized (goal.at.returns-in-Open c).After-lists_size-lists) e tag bytes c.in-Open.is _ _ c.put_view-next.ensures
+pub returns : goal.returns
+returns c = λ e tag bytes.
+    open_done _ _ _ _ _ _ _ c.admit.ensures (sized (goal.at.returns c).After-lists_size-lists) e tag bytes c.in_ok-admit.was _ _ c.put_view-next.ensures
 
-pub returns-in-Shut : goal.returns-in-Shut
-returns-in-Shut c = λ e tag bytes. shut_done _ _ _ _ _ _ _ c.admit.ensures (sized (goal.at.returns-in-Shut c).After-lists_size-lists) e tag bytes c.in-Shut.is
+pub returns-in_err-admit : goal.returns-in_err-admit
+returns-in_err-admit c = λ e tag bytes.
+    shut_done _ _ _ _ _ _ _ c.admit.ensures (sized (goal.at.returns-in_err-admit c).After-lists_size-lists) e tag bytes c.in_err-admit.was _ c.from_residual.ensures.1

@@ -1,23 +1,27 @@
--- `long_uvarint_at` meets its contract, by the three answers of `get_uvarint`.
-use native.Mathlib.Omega.{arith}
-use mathlib.Core.Path.{sym, ap, ◌∙◌}
-use lib.ListN.{length-drop}
+-- `long_uvarint_at` meets its contract, by the answers of `get_uvarint`.
+use Rattle.std.proofs.Common.{◌≡◌, Err, sym, ap, ◌∙◌, arith, rules, length-drop}
 use Rattle.uvarint.specs.UvarintLaws.{taken}
-use Rattle.body_format.proofs.Laws.Fields.{uvarint-got, uvarint-short, uvarint-bad}
+use Rattle.wal_types.proofs.Passing.{passed_on}
+use Rattle.body_format.specs.Fields.{fault, uvarint_of, uvarint_at}
+use Rattle.body_format.proofs.Laws.Fields.{uvarint-got}
 use Rattle.body_fields.specs.Readings.{number_read}
+use Rattle.body_fields.proofs.Mapped.{was_ok, was_err}
 use Rattle.body_fields.proofs.long_uvarint_at.Goals as goal
 
-pub overflow_add-next : goal.overflow_add-next
-overflow_add-next c =
+pub returns-in_err-n : goal.returns-in_err-n
+unfolding uvarint_at
+returns-in_err-n c =
+    let h = was_err _ _ _ c.map_err.ensures.cases c.in_err-n.was in
+    let g : fault c.in_err-n.field-0.0 ≡ uvarint_of c.args.at (Err h.0) = search rules in
+    passed_on c.from_residual.result _ c.from_residual.ensures.1
+    ∙ ap number_read (g ∙ ap (uvarint_of c.args.at) (sym h.1 ∙ c.get_uvarint.ensures))
+
+pub overflow_add-result : goal.overflow_add-result
+overflow_add-result c =
     let a = c.args in
-    let t = taken _ _ _ (sym c.get_uvarint.ensures ∙ c.in-Value.is) in
+    let t = taken _ _ _ (sym c.get_uvarint.ensures ∙ was_ok _ _ _ c.map_err.ensures.cases c.in_ok-n.was) in
     omega (arith, t.some, t.there, length-drop a.at a.body.now)
 
-pub returns-in-Value : goal.returns-in-Value
-returns-in-Value c = sym (ap number_read (uvarint-got _ _ _ _ (sym c.get_uvarint.ensures ∙ c.in-Value.is)))
-
-pub returns-in-Short : goal.returns-in-Short
-returns-in-Short c = sym (ap number_read (uvarint-short _ _ (sym c.get_uvarint.ensures ∙ c.in-Short.is)))
-
-pub returns-in-BadVarint : goal.returns-in-BadVarint
-returns-in-BadVarint c = sym (ap number_read (uvarint-bad _ _ (sym c.get_uvarint.ensures ∙ c.in-BadVarint.is)))
+pub returns : goal.returns
+returns c =
+    sym (ap number_read (uvarint-got _ _ _ _ (sym c.get_uvarint.ensures ∙ was_ok _ _ _ c.map_err.ensures.cases c.in_ok-n.was)))

@@ -1,14 +1,8 @@
 -- Laws of bodies that grow: where a body with the entries es is followed by the bytes of an entry,
 -- the two are a body with es and that entry.
 -- Assumes nothing.
-use Rattle.std.specs.Prelude.{◌≡◌, Bool, true, false, get_or, take, drop, eqb}
-use Rattle.std.proofs.Math.Path.{refl, ap}
-use Rattle.std.proofs.Common.{sym, ◌∙◌, eqb-true, take-append-drop, length-take-le, get_or-drop}
-use mathlib.Core.List.{List, [], ◌∷◌, ◌++◌, append_assoc}
-use Prim.Native.Nat.{ℕ, suc, ◌+◌, ◌^◌, ◌≤◌, ◌<◌}
-use native.Mathlib.Omega.{arith}
+use Rattle.std.proofs.Common.{◌≡◌, Bool, true, false, get_or, take, drop, eqb, refl, List, [], ◌∷◌, ◌++◌, ℕ, suc, ◌+◌, ◌^◌, ◌≤◌, ◌<◌, length, ap, sym, ◌∙◌, eqb-true, take-append-drop, length-take-le, get_or-drop, append_assoc, arith, length-append}
 use Rattle.std.proofs.lemmas.Bool.{eqb-false}
-use Rattle.std.proofs.Math.ListN.{length, length-append}
 use Rattle.wal_types.specs.Deltas.{minus, to_bits}
 use Rattle.wal_types.specs.DeltaLaws.{to_lt}
 use Rattle.big_endian.specs.Fixed.{be8, read_be8}

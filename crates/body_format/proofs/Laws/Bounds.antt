@@ -1,23 +1,15 @@
 -- Laws of places: a reading that succeeds goes forward by at least the fewest bytes that its field
 -- can have, and ends within the body.
 -- Assumes nothing.
-use Rattle.std.specs.Prelude.{◌≡◌, Bool, cond, List, drop}
-use Rattle.std.proofs.Math.Path.{refl}
-use Rattle.std.proofs.Common.{subst}
-use Rattle.std.proofs.Math.Bool.{true, false}
-use Prim.Native.Nat.{ℕ, zero, suc, ◌+◌, ◌*◌, ◌^◌, ◌≤◌, ◌<◌}
-use native.Mathlib.Omega.{arith}
-use borrow.Author.Tests.{ltb-true, ltb-false}
-use Rattle.std.proofs.Math.ListN.{length, take, length-drop}
-use Rattle.std.proofs.Math.Dec.{ltb}
+use Rattle.std.proofs.Common.{◌≡◌, Bool, cond, List, drop, refl, true, false, ℕ, zero, suc, ◌+◌, ◌*◌, ◌^◌, ◌≤◌, ◌<◌, length, take, ltb, subst, arith, ltb-true, ltb-false, length-drop}
 use Rattle.std.specs.Int.Signed.{mag}
 use Rattle.wal_types.specs.declared.Refusal.{Refusal}
 use Rattle.wal_types.specs.declared.Refusal.TheVariants.{Short}
 use Rattle.wal_types.specs.Terms.{offset}
-use Rattle.uvarint.specs.declared.UvarintRead.{UvarintRead}
-use Rattle.uvarint.specs.declared.UvarintRead.TheVariants as u
-use Rattle.varint.specs.declared.VarintRead.{VarintRead}
-use Rattle.varint.specs.declared.VarintRead.TheVariants as v
+use Rattle.uvarint.specs.Results.UvarintRead.{UvarintRead}
+use Rattle.uvarint.specs.Results.UvarintRead as u
+use Rattle.varint.specs.Results.VarintRead.{VarintRead}
+use Rattle.varint.specs.Results.VarintRead as v
 use Rattle.uvarint.specs.Uvarint.{read_uvarint}
 use Rattle.uvarint.specs.UvarintLaws.{taken}
 use Rattle.varint.specs.Varint.{read_varint}

@@ -1,13 +1,10 @@
 -- Laws of lists of additions: whatever is added to a started body, refused or not, the body reads
 -- back as the entries that were put in.
 -- Assumes nothing.
-use Rattle.std.specs.Prelude.{◌≡◌, false, ℕ, ◌≤◌, length, take}
-use Rattle.std.proofs.Math.Path.{refl}
-use Rattle.std.proofs.Common.{sym, ap, ◌∙◌, arith}
-use mathlib.Core.List.{List, [], ◌∷◌, ◌++◌, append_assoc, append-nil}
+use Rattle.std.proofs.Common.{◌≡◌, false, ℕ, ◌≤◌, length, take, refl, List, [], ◌∷◌, ◌++◌, sym, ap, ◌∙◌, arith, append_assoc, append-nil}
 use Rattle.std.proofs.lemmas.List.Edits.{sets}
 use Rattle.std.proofs.Math.Seq.{length-sets}
-use Rattle.body_format.specs.declared.CheckAnswer.TheVariants.{Entries}
+use Rattle.body_format.specs.Results.CheckAnswer.{Entries}
 use Rattle.body_format.specs.Entries.{BodyType, type_byte, Known, known, unknown, body_type_of, has_rows, Entry, body_type_for, entries}
 use Rattle.body_format.specs.Reading.{check_body}
 use Rattle.body_format.specs.Building.{entry_bytes, Outcome, used, refused, start_known, start, start_bytes, add, add_bytes}

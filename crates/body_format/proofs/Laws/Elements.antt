@@ -1,16 +1,12 @@
 -- Laws of a histogram's lists: each element is read at its place, the first at the place that the
 -- histogram's answer gives, each later one at the place after the one before.
 -- Assumes nothing.
-use Rattle.std.specs.Prelude.{◌≡◌, refl, length}
-use Rattle.std.proofs.Common.{ap, ◌∙◌, arith}
-use mathlib.Core.List.{List, ◌∷◌}
-use Prim.Native.Nat.{ℕ, zero, suc, ◌+◌, ◌≤◌}
-use borrow.Author.Tests.{le-ltb, ne_eqb}
+use Rattle.std.proofs.Common.{◌≡◌, refl, length, List, ◌∷◌, ℕ, zero, suc, ◌+◌, ◌≤◌, ap, ◌∙◌, arith, le-ltb, ne_eqb}
 use Rattle.wal_types.specs.Terms.{offset}
 use Rattle.body_format.specs.declared.BucketKind.{BucketKind}
 use Rattle.body_format.specs.declared.Element.{Element}
 use Rattle.body_format.specs.declared.Element.TheVariants as element
-use Rattle.body_format.specs.declared.EntryPlace.TheVariants.{At}
+use Rattle.body_format.specs.Results.EntryPlace.{At}
 use Rattle.body_format.specs.Fields.{Field, got, fault, uvarint_at}
 use Rattle.body_format.specs.Heads.{head_at}
 use Rattle.body_format.specs.Histograms.{Span, span_at, bucket_at, Item, item_at, items_at, Listed, list_at, Sides, sides_at, numbers_at, Lists, map_lists, lists_at, Histogram, histogram_at, bare, firsts}

@@ -1,12 +1,7 @@
 -- Laws of entries: the bytes of an entry at a place of a body read back there as that entry.
 -- Assumes nothing.
-use Rattle.std.specs.Prelude.{◌≡◌, refl, true, ℤ}
-use Rattle.std.proofs.Common.{◌∙◌}
-use mathlib.Core.List.{List, [], ◌∷◌, ◌++◌}
-use Prim.Native.Nat.{ℕ, ◌+◌, ◌/◌, ◌%◌, ◌^◌, ◌<◌}
-use native.Mathlib.Omega.{arith}
+use Rattle.std.proofs.Common.{◌≡◌, refl, true, ℤ, List, [], ◌∷◌, ◌++◌, ℕ, ◌+◌, ◌/◌, ◌%◌, ◌^◌, ◌<◌, length, ◌∙◌, arith, length-append}
 use Rattle.std.specs.Int.Signed.{mag}
-use Rattle.std.proofs.Math.ListN.{length, length-append}
 use Rattle.wal_types.specs.Deltas.{to_bits}
 use Rattle.uvarint.specs.Uvarint.{uvarint}
 use Rattle.varint.specs.Varint.{varint}

@@ -1,15 +1,13 @@
 -- Laws of the head of a row: every delta of 64 bits reads back, and so does a head. The code reads
 -- and writes the zigzag of a delta, a uvarint.
 -- Assumes nothing.
-use Rattle.std.specs.Prelude.{◌≡◌, List, ◌++◌, ℕ, ◌+◌, ◌^◌, ◌<◌, ℤ, length, drop}
-use Rattle.std.proofs.Math.Path.{refl, ap}
-use Rattle.std.proofs.Common.{◌∙◌, arith, eq-eqb, ne_eqb, length-append}
+use Rattle.std.proofs.Common.{◌≡◌, List, ◌++◌, ℕ, ◌+◌, ◌^◌, ◌<◌, ℤ, length, drop, refl, ap, ◌∙◌, arith, eq-eqb, ne_eqb, length-append}
 use Rattle.std.specs.Int.Signed.{mag}
 use Rattle.wal_types.specs.declared.Refusal.{Refusal}
 use Rattle.wal_types.specs.Deltas.{minus, to_bits, int_from_bits}
 use Rattle.wal_types.specs.DeltaLaws.{from_to, to_from, to_lt, from-fits, plus-minus, minus_lt}
-use Rattle.uvarint.specs.declared.UvarintRead.{UvarintRead}
-use Rattle.uvarint.specs.declared.UvarintRead.TheVariants as u
+use Rattle.uvarint.specs.Results.UvarintRead.{UvarintRead}
+use Rattle.uvarint.specs.Results.UvarintRead as u
 use Rattle.uvarint.specs.Uvarint.{uvarint, read_uvarint, groups}
 use Rattle.varint.specs.Varint.{zigzag, unzigzag, varint, signed, read_varint}
 use Rattle.big_endian.specs.Fixed.{be8, read_be8}

@@ -1,11 +1,8 @@
 -- Laws of histograms: what was written reads back, from a field to an entry. Each law stands once,
 -- over the bucket kind or the element.
 -- Assumes nothing.
-use Rattle.std.specs.Prelude.{◌≡◌, refl, List, [], ◌∷◌, ◌++◌, ℕ, zero, suc, ◌+◌, ◌^◌, ◌≤◌, ◌<◌, ℤ, length}
-use Rattle.std.proofs.Common.{ap, ◌∙◌, arith}
-use borrow.Author.Tests.{lt-ltb}
+use Rattle.std.proofs.Common.{◌≡◌, refl, List, [], ◌∷◌, ◌++◌, ℕ, zero, suc, ◌+◌, ◌^◌, ◌≤◌, ◌<◌, ℤ, length, ap, ◌∙◌, arith, lt-ltb, length-append}
 use Rattle.std.specs.Int.Signed.{mag}
-use Rattle.std.proofs.Math.ListN.{length-append}
 use Rattle.wal_types.specs.Deltas.{to_bits}
 use Rattle.uvarint.specs.Uvarint.{uvarint}
 use Rattle.uvarint.specs.UvarintLaws.{length-at-least_1}

@@ -1,23 +1,17 @@
 -- Laws of more bytes: those that follow a body do not change a reading that succeeded in it.
 -- Assumes nothing.
-use Rattle.std.specs.Prelude.{◌≡◌, Bool, cond, List, ◌++◌, drop}
-use Rattle.std.proofs.Math.Path.{refl}
-use Rattle.std.proofs.Common.{ap, ◌∙◌, arith}
-use Rattle.std.proofs.Math.Bool.{true, false}
-use Prim.Native.Nat.{ℕ, zero, suc, ◌+◌, ◌*◌, ◌^◌, ◌≤◌, ◌<◌}
-use borrow.Author.Tests.{le-ltb, ltb-true, ltb-false}
-use Rattle.std.proofs.Math.ListN.{length, take, length-append, length-drop, get_or-append}
+use Rattle.std.proofs.Common.{◌≡◌, Bool, cond, List, ◌++◌, drop, refl, true, false, ℕ, zero, suc, ◌+◌, ◌*◌, ◌^◌, ◌≤◌, ◌<◌, length, take, ltb, ap, ◌∙◌, arith, le-ltb, ltb-true, ltb-false, length-append, length-drop}
+use Rattle.std.proofs.Math.ListN.{get_or-append}
 use Rattle.std.proofs.lemmas.List.{drop-append-le}
 use Rattle.std.proofs.Math.Seq.{take-append-le}
-use Rattle.std.proofs.Math.Dec.{ltb}
 use Rattle.std.specs.Int.Signed.{mag}
 use Rattle.wal_types.specs.declared.Refusal.{Refusal}
 use Rattle.wal_types.specs.declared.Refusal.TheVariants.{Short}
 use Rattle.wal_types.specs.Terms.{offset}
-use Rattle.uvarint.specs.declared.UvarintRead.{UvarintRead}
-use Rattle.uvarint.specs.declared.UvarintRead.TheVariants as u
-use Rattle.varint.specs.declared.VarintRead.{VarintRead}
-use Rattle.varint.specs.declared.VarintRead.TheVariants as v
+use Rattle.uvarint.specs.Results.UvarintRead.{UvarintRead}
+use Rattle.uvarint.specs.Results.UvarintRead as u
+use Rattle.varint.specs.Results.VarintRead.{VarintRead}
+use Rattle.varint.specs.Results.VarintRead as v
 use Rattle.uvarint.specs.Uvarint.{read_uvarint}
 use Rattle.uvarint.specs.UvarintLaws.{taken, append-value}
 use Rattle.varint.specs.Varint.{read_varint}

@@ -1,10 +1,7 @@
 -- Laws of the list of entries: it steps without a count of steps, ends at the body's end, and grows
 -- by one entry where the bytes of one follow the body.
 -- Assumes nothing.
-use Rattle.std.specs.Prelude.{◌≡◌, Bool, true, false, cond, List, [], ◌∷◌, ◌++◌, length, eqb}
-use Rattle.std.proofs.Math.Path.{refl}
-use Rattle.std.proofs.Common.{sym, ap, ◌∙◌, arith, eq-eqb, ne_eqb, eqb-true, length-append}
-use Prim.Native.Nat.{ℕ, zero, suc, ◌+◌, ◌≤◌, ◌<◌}
+use Rattle.std.proofs.Common.{◌≡◌, Bool, true, false, cond, List, [], ◌∷◌, ◌++◌, length, eqb, refl, ℕ, zero, suc, ◌+◌, ◌≤◌, ◌<◌, sym, ap, ◌∙◌, arith, eq-eqb, ne_eqb, eqb-true, length-append}
 use Rattle.std.proofs.lemmas.Bool.{eqb-false}
 use Rattle.body_format.specs.Fields.{Field, got, fault, and_then, fixed_at}
 use Rattle.body_format.specs.Entries.{BodyType, has_rows, Entry, Placed, entry_at, entries_from, first_at, entries}

@@ -1,15 +1,11 @@
 -- Laws of places: where the entry of a place is, in a body of a known type, and which places are bad.
 -- Assumes nothing.
-use Rattle.std.specs.Prelude.{◌≡◌, Bool, ◌&&◌, List, ℕ, ◌≤◌, ◌<◌, length}
-use Rattle.std.proofs.Math.Path.{refl}
-use Rattle.std.proofs.Common.{sym, ap, arith}
-use Rattle.std.proofs.Math.Bool.{true, false, cond}
-use borrow.Author.Tests.{lt-ltb, le-ltb, le-leb, lt-leb, eq-eqb, ne_eqb}
-use Rattle.std.proofs.Math.Dec.{leb}
+use Rattle.std.proofs.Common.{◌≡◌, Bool, ◌&&◌, List, ℕ, ◌≤◌, ◌<◌, length, refl, true, false, cond, leb, sym, ap, arith, lt-ltb, le-ltb, le-leb, eq-eqb, ne_eqb}
+use borrow.Author.Tests.{lt-leb}
 use Rattle.wal_types.specs.declared.Refusal.TheVariants.{BadPlace}
 use Rattle.wal_types.specs.Terms.{offset}
-use Rattle.body_format.specs.declared.EntryPlace.{EntryPlace}
-use Rattle.body_format.specs.declared.EntryPlace.TheVariants.{At, End, Refused}
+use Rattle.body_format.specs.Results.EntryPlace.{EntryPlace}
+use Rattle.body_format.specs.Results.EntryPlace.{At, End, Refused}
 use Rattle.body_format.specs.Entries.{BodyType, known, has_rows, first_at}
 use Rattle.body_format.specs.Reading.{bad_place, place_or_end, first_place, entry_place, entry_there, entry_known}
 

@@ -1,12 +1,8 @@
 -- Laws of strings as the caller gives them, one slice of bytes and one of lengths, and of how many
 -- bytes an entry takes.
 -- Assumes nothing.
-use Rattle.std.specs.Prelude.{◌≡◌, Bool, true, false, ◌||◌, not, ℕ, suc, ◌+◌, ◌%◌, ◌≤◌, ◌<◌, ℤ, length, get_or, take, drop, eqb}
-use Rattle.std.proofs.Math.Path.{refl}
-use Rattle.std.proofs.Common.{ap, ◌∙◌, add-one, arith, eq-eqb, drop-cons, drop-drop, length-take-le}
-use mathlib.Core.List.{List, [], ◌∷◌, ◌++◌, append_assoc}
+use Rattle.std.proofs.Common.{◌≡◌, Bool, true, false, ◌||◌, not, ℕ, suc, ◌+◌, ◌%◌, ◌≤◌, ◌<◌, ℤ, length, get_or, take, drop, eqb, refl, List, [], ◌∷◌, ◌++◌, ap, ◌∙◌, add-one, arith, eq-eqb, drop-cons, drop-drop, length-take-le, append_assoc, length-append}
 use Rattle.std.proofs.lemmas.Bool.{eqb-false}
-use Rattle.std.proofs.Math.ListN.{length-append}
 use Rattle.wal_types.specs.Deltas.{minus, to_bits}
 use Rattle.uvarint.specs.Uvarint.{uvarint}
 use Rattle.varint.specs.Varint.{varint}

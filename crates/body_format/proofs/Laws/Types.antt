@@ -1,7 +1,6 @@
 -- Laws of the types: which byte is the tag of which type, and which of none.
 -- Assumes nothing.
-use Rattle.std.specs.Prelude.{◌≡◌, refl, Bool, true, false, cond, ℕ, eqb}
-use Rattle.std.proofs.Common.{ap, ◌∙◌, arith, ne_eqb, eqb-true}
+use Rattle.std.proofs.Common.{◌≡◌, refl, Bool, true, false, cond, ℕ, eqb, ap, ◌∙◌, arith, ne_eqb, eqb-true}
 use Rattle.body_format.specs.declared.BucketKind.TheVariants.{Whole, Float}
 use Rattle.body_format.specs.Entries.{BodyType, series, samples, tombstones, exemplars, metadata, histograms, type_byte, known, unknown, body_type_of, rows_known}
 

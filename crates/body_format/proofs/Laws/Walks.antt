@@ -1,18 +1,13 @@
 -- Laws of walks: reading an entry at each place in turn gives the list of entries that the
 -- definition reads, each entry's strings, and each histogram's lists.
 -- Assumes nothing.
-use Rattle.std.proofs.Math.Path.{◌≡◌, refl, ap, subst}
-use Rattle.std.proofs.Common.{◌∙◌, arith, length-take-le}
-use Rattle.std.specs.Prelude.{Bool, false, cond, List, ◌∷◌, take, drop, ltb, eqb}
-use Rattle.std.proofs.Math.Bool.{true}
-use Prim.Native.Nat.{ℕ, zero, suc, ◌+◌, ◌*◌, ◌≤◌, ◌<◌}
-use borrow.Author.Tests.{le-ltb, ltb-false, ne_eqb, eqb-true, eqb-false}
-use Rattle.std.proofs.Math.ListN.{length}
+use Rattle.std.proofs.Common.{◌≡◌, refl, Bool, false, cond, List, ◌∷◌, take, drop, ltb, eqb, true, ℕ, zero, suc, ◌+◌, ◌*◌, ◌≤◌, ◌<◌, length, ap, subst, ◌∙◌, arith, length-take-le, le-ltb, ltb-false, ne_eqb, eqb-true}
+use borrow.Author.Tests.{eqb-false}
 use Rattle.wal_types.specs.declared.Refusal.TheVariants.{Short}
 use Rattle.wal_types.specs.Terms.{offset}
-use Rattle.body_format.specs.declared.EntryAnswer.TheVariants.{End}
-use Rattle.body_format.specs.declared.EntryPlace.TheVariants as place
-use Rattle.body_format.specs.declared.StringAnswer.TheVariants.{Found as StringFound}
+use Rattle.body_format.specs.Results.EntryAnswer.{End}
+use Rattle.body_format.specs.Results.EntryPlace as place
+use Rattle.body_format.specs.Results.StringAnswer.{Found as StringFound}
 use Rattle.body_format.specs.Fields.{Field, got, fault, and_then, byte_at, fixed_at, uvarint_at, varint_at, StringField, string_at, strings_at, string_list_at}
 use Rattle.body_format.specs.Histograms.{histogram_at}
 use Rattle.body_format.specs.Entries.{BodyType, series, samples, tombstones, exemplars, metadata, histograms, known, body_type_of, has_rows, Entry, row_at, series_at, sample_at, tombstone_at, exemplar_at, metadata_at, histogram_entry_at, entry_at, entries_from, first_at, entries}

@@ -1,10 +1,7 @@
 -- `plain_entry` meets its contract: a bad place, the end, or the entry of the type.
-use native.Mathlib.Omega.{arith}
-use Prim.Native.Nat.{ℕ}
-use mathlib.Core.Path.{◌≡◌, sym, ap, ◌∙◌}
-use mathlib.Core.List.{List}
+use Rattle.std.proofs.Common.{ℕ, ◌≡◌, List, arith, sym, ap, ◌∙◌}
 use Rattle.wal_types.specs.Terms.{offset}
-use Rattle.body_format.specs.declared.EntryPlace.TheVariants.{At}
+use Rattle.body_format.specs.Results.EntryPlace.{At}
 use Rattle.body_format.specs.Entries.{entry_at}
 use Rattle.body_format.specs.Reading.{place_or_end, entry_place, answer_entry}
 use Rattle.body_format.proofs.Laws.Places.{place_end, place-before, bad_zero, bad-past, entry-there}

@@ -1,23 +1,23 @@
 -- `series_at` meets its contract, field by field.
+use Rattle.std.proofs.Common.{◌∙◌}
+use Rattle.wal_types.proofs.Passing.{passed_on}
 use Rattle.body_fields.specs.Laws.{number-got, number-fault, list-got, list-fault}
 use Rattle.body_plain.proofs.Reading.{series_1, series_2, series-all}
 use Rattle.body_plain.proofs.series_at.Goals as goal
 
-pub returns-in-Got-string_list_at : goal.returns-in-Got-string_list_at
-returns-in-Got-string_list_at c =
-    let second = c in
-    let first = second in
-    series-all _ _
-    (number-got _ _ first.fixed_at.ensures second.in-Got.is)
-    (list-got _ _ second.string_list_at.ensures c.in-Got-string_list_at.is)
+pub returns-in_err-id : goal.returns-in_err-id
+returns-in_err-id c =
+    passed_on c.from_residual.result _ c.from_residual.ensures.1
+    ∙ series_1 _ _ (number-fault _ _ c.fixed_at.ensures c.in_err-id.was)
 
-pub returns-in-Fault-string_list_at : goal.returns-in-Fault-string_list_at
-returns-in-Fault-string_list_at c =
-    let second = c in
-    let first = second in
-    series_2 _ _
-    (number-got _ _ first.fixed_at.ensures second.in-Got.is)
-    (list-fault _ _ second.string_list_at.ensures c.in-Fault-string_list_at.is)
+pub returns-in_err-count : goal.returns-in_err-count
+returns-in_err-count c =
+    let r = c.from_residual-in_err-count in
+    passed_on r.result _ r.ensures.1
+    ∙ series_2 _ _ (number-got _ _ c.fixed_at.ensures c.in_ok-id.was)
+    (list-fault _ _ c.string_list_at.ensures c.in_err-count.was)
 
-pub returns-in-Fault : goal.returns-in-Fault
-returns-in-Fault c = series_1 _ _ (number-fault _ _ c.fixed_at.ensures c.in-Fault.is)
+pub returns : goal.returns
+returns c =
+    series-all _ _ (number-got _ _ c.fixed_at.ensures c.in_ok-id.was)
+    (list-got _ _ c.string_list_at.ensures c.in_ok-count.was)

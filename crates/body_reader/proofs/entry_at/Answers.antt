@@ -1,13 +1,13 @@
 -- `entry_at` meets its contract: its type, and then the entry of a body with rows or without.
-use Prim.Native.Nat.{ℕ}
-use mathlib.Core.Path.{◌≡◌, sym, ap, ◌∙◌}
-use mathlib.Core.List.{List}
-use Rattle.body_format.specs.declared.EntryAnswer.TheVariants.{Refused as EntryRefused}
+use Rattle.std.specs.Prelude.{◌≡◌, List, ℕ}
+use Rattle.std.proofs.Common.{sym, ap, ◌∙◌}
+use Rattle.wal_types.proofs.Passing.{passed_on}
+use Rattle.body_format.specs.Results.EntryAnswer.{Refused as EntryRefused}
 use Rattle.body_format.specs.Entries.{known}
 use Rattle.body_format.specs.Reading.{entry_known, read_entry}
 use Rattle.body_reader.specs.declared.tags.BodyLayout.{BodyLayout}
-use Rattle.body_reader.specs.declared.tags.TypeRead.{TypeRead}
-use Rattle.body_reader.specs.declared.tags.TypeRead.TheVariants as type
+use Rattle.body_reader.specs.Results.TypeRead.{TypeRead}
+use Rattle.body_reader.specs.Results.TypeRead as type
 use Rattle.body_reader.specs.Layouts.{type_in, type_read}
 use Rattle.body_reader.proofs.Types.{by_type, entry_type}
 use Rattle.body_reader.proofs.entry_at.Goals as goal
@@ -19,26 +19,20 @@ known-entry s p e g h =
 
 pub returns-in-Rows : goal.returns-in-Rows
 returns-in-Rows c =
-    let found = c in
-    let type = found in
     c.row_entry.ensures
-    ∙ sym (known-entry _ _ type.body_type.ensures found.in-Known.is c.in-Rows.is)
+    ∙ sym (known-entry _ _ c.body_type.ensures c.in_ok-layout.was c.in-Rows.is)
 
 pub returns-in-Plain : goal.returns-in-Plain
 returns-in-Plain c =
-    let found = c in
-    let type = found in
     c.plain_entry.ensures
-    ∙ sym (known-entry _ _ type.body_type.ensures found.in-Known.is c.in-Plain.is)
+    ∙ sym (known-entry _ _ c.body_type.ensures c.in_ok-layout.was c.in-Plain.is)
 
 pub returns-in-Histograms : goal.returns-in-Histograms
 returns-in-Histograms c =
-    let found = c in
-    let type = found in
     c.histogram_as_entry.ensures
-    ∙ sym (known-entry _ _ type.body_type.ensures found.in-Known.is c.in-Histograms.is)
+    ∙ sym (known-entry _ _ c.body_type.ensures c.in_ok-layout.was c.in-Histograms.is)
 
-pub returns-in-Refused : goal.returns-in-Refused
-returns-in-Refused c =
-    let type = c in
-    sym (entry_type _ _ ∙ ap (by_type EntryRefused (λ k. entry_known (known k) c.args.body.now c.args.place.0)) (sym type.body_type.ensures ∙ c.in-Refused.is))
+pub returns-in_err-layout : goal.returns-in_err-layout
+returns-in_err-layout c =
+    passed_on c.from_residual.result _ c.from_residual.ensures.1
+    ∙ sym (entry_type _ _ ∙ ap (by_type EntryRefused (λ k. entry_known (known k) c.args.body.now c.args.place.0)) (sym c.body_type.ensures ∙ c.in_err-layout.was))

@@ -1,14 +1,11 @@
 -- `span_at` meets its contract: the kind, the place, and then the span.
-use Prim.Native.Nat.{ℕ}
-use mathlib.Core.Path.{◌≡◌, sym, ◌∙◌}
-use mathlib.Core.Bool.{true, false, cond, ◌||◌}
-use mathlib.Core.List.{List}
-use lib.Dec.{ltb, eqb}
-use lib.ListN.{length}
+use Rattle.std.specs.Prelude.{◌≡◌, true, false, cond, ◌||◌, List, ℕ, length, ltb, eqb}
+use Rattle.std.proofs.Common.{sym, ◌∙◌}
 use Rattle.wal_types.specs.declared.Refusal.TheVariants.{BadPlace}
+use Rattle.wal_types.proofs.Passing.{passed_on}
 use Rattle.body_format.specs.declared.BucketKind.{BucketKind}
-use Rattle.body_format.specs.declared.SpanAnswer.{SpanAnswer}
-use Rattle.body_format.specs.declared.SpanAnswer.TheVariants.{Refused}
+use Rattle.body_format.specs.Results.SpanAnswer.{SpanAnswer}
+use Rattle.body_format.specs.Results.SpanAnswer.{Refused}
 use Rattle.body_format.specs.Histograms.{span_at}
 use Rattle.body_format.specs.Reading.{answer_span, read_span}
 use Rattle.body_reader.proofs.Types.{read_known, read-refused}
@@ -28,25 +25,21 @@ good s p k h = rw h
 pub returns-then-is_outside : goal.returns-then-is_outside
 unfolding read_span
 returns-then-is_outside c =
-    let found = c in
-    let read = found in
-    let a = read.args in
-    bad a.body.now a.place.0 found.in-Known.field-0 (sym c.is_outside.ensures ∙ c.if-is_outside.true)
-    ∙ read_known Refused (inside a.body.now a.place.0) a.body.now read.bucket_kind.ensures found.in-Known.is
+    let a = c.args in
+    bad a.body.now a.place.0 c.in_ok-bucket_kind.field-0 (sym c.is_outside.ensures ∙ c.if-is_outside.true)
+    ∙ read_known Refused (inside a.body.now a.place.0) a.body.now c.bucket_kind.ensures c.in_ok-bucket_kind.was
 
-pub returns-else-is_outside : goal.returns-else-is_outside
+pub returns : goal.returns
 unfolding read_span
-returns-else-is_outside c =
-    let found = c in
-    let read = found in
-    let a = read.args in
+returns c =
+    let a = c.args in
     c.span_at.ensures
-    ∙ good a.body.now a.place.0 found.in-Known.field-0 (sym c.is_outside.ensures ∙ c.if-is_outside.false)
-    ∙ read_known Refused (inside a.body.now a.place.0) a.body.now read.bucket_kind.ensures found.in-Known.is
+    ∙ good a.body.now a.place.0 c.in_ok-bucket_kind.field-0 (sym c.is_outside.ensures ∙ c.if-is_outside.false)
+    ∙ read_known Refused (inside a.body.now a.place.0) a.body.now c.bucket_kind.ensures c.in_ok-bucket_kind.was
 
-pub returns-in-Refused : goal.returns-in-Refused
+pub returns-in_err-bucket_kind : goal.returns-in_err-bucket_kind
 unfolding read_span
-returns-in-Refused c =
-    let read = c in
-    let a = read.args in
-    read-refused Refused (inside a.body.now a.place.0) a.body.now read.bucket_kind.ensures c.in-Refused.is
+returns-in_err-bucket_kind c =
+    let a = c.args in
+    passed_on c.from_residual.result _ c.from_residual.ensures.1
+    ∙ read-refused Refused (inside a.body.now a.place.0) a.body.now c.bucket_kind.ensures c.in_err-bucket_kind.was

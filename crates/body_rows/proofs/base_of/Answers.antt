@@ -1,6 +1,5 @@
 -- `base_of` meets its contract: two fields of eight bytes.
-use native.Mathlib.Omega.{arith}
-use mathlib.Core.Path.{ap, ◌∙◌}
+use Rattle.std.proofs.Common.{arith, ap, ◌∙◌}
 use Rattle.wal_types.specs.DeltaLaws.{to_from}
 use Rattle.wal_types.specs.Deltas.{to_bits}
 use Rattle.body_rows.proofs.base_of.Goals as goal

@@ -1,5 +1,5 @@
 -- `is_short_row` meets its contract, test by test.
-use native.Mathlib.Omega.{arith}
+use Rattle.std.proofs.Common.{arith}
 use Rattle.body_rows.proofs.ShortRow.{too_few_lem, first-long, by-second}
 use Rattle.body_rows.proofs.is_short_row.Goals as goal
 

@@ -1,5 +1,5 @@
 -- `no_row` meets its contract, length by length.
-use native.Mathlib.Omega.{arith}
+use Rattle.std.proofs.Common.{arith}
 use Rattle.body_format.proofs.Laws.Places.{bad-past, entry-there}
 use Rattle.body_rows.specs.Rows.{rows_type}
 use Rattle.body_rows.specs.Laws.{rows-rows}

@@ -1,7 +1,5 @@
 -- `row_end` meets its contract: ten bytes, or field by field.
-use native.Mathlib.Omega.{arith}
-use mathlib.Core.Path.{◌≡◌, sym, ◌∙◌}
-use mathlib.Core.Bool.{true}
+use Rattle.std.proofs.Common.{◌≡◌, true, arith, sym, ◌∙◌}
 use Rattle.body_rows.specs.Forms.{is_short_row}
 use Rattle.body_rows.specs.Short.{short_inside}
 use Rattle.body_rows.proofs.ShortRow.{short-end}
@@ -13,8 +11,8 @@ is-short : (c : Then-is_short_row) →
     is_short_row a.body.now a.at ≡ true
 is-short c = sym c.is_short_row.ensures ∙ c.if-is_short_row.true
 
-pub overflow_add-next : goal.overflow_add-next
-overflow_add-next c = omega (arith, short_inside _ _ (is-short (goal.at.overflow_add-next c).Then-is_short_row))
+pub overflow_add-result : goal.overflow_add-result
+overflow_add-result c = omega (arith, short_inside _ _ (is-short (goal.at.overflow_add-result c).Then-is_short_row))
 
 pub returns-then-is_short_row : goal.returns-then-is_short_row
 returns-then-is_short_row c = short-end _ _ (is-short (goal.at.returns-then-is_short_row c).Then-is_short_row)

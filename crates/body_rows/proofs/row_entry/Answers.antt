@@ -1,8 +1,5 @@
 -- `row_entry` meets its contract: no row yet, a bad place, the end, or the row.
-use native.Mathlib.Omega.{arith}
-use Prim.Native.Nat.{ℕ, ◌≤◌, ◌<◌}
-use mathlib.Core.Path.{◌≡◌, sym, ap, ◌∙◌, subst}
-use lib.ListN.{length}
+use Rattle.std.proofs.Common.{ℕ, ◌≤◌, ◌<◌, ◌≡◌, length, arith, sym, ap, ◌∙◌, subst}
 use Rattle.body_format.specs.Reading.{place_or_end, entry_place}
 use Rattle.body_format.proofs.Laws.Places.{place_end, place-before, entry-there}
 use Rattle.body_rows.specs.Rows.{rows_type}
@@ -10,9 +7,6 @@ use Rattle.body_rows.specs.Laws.{rows-rows}
 use Rattle.body_rows.proofs.Placing.{row_low, row-past, row_here}
 use Rattle.body_rows.proofs.row_entry.Goals as goal
 use Rattle.body_rows.proofs.row_entry.Goals.{Else-body-from}
-
-pub returns-then-body-lt-ROWS : goal.returns-then-body-lt-ROWS
-returns-then-body-lt-ROWS c = c.no_row.ensures c.args.labelled
 
 pub returns-then-from-lt-ROWS : goal.returns-then-from-lt-ROWS
 returns-then-from-lt-ROWS c =
@@ -40,9 +34,6 @@ here c =
 
 pub returns-then-body-from-2 : goal.returns-then-body-from-2
 returns-then-body-from-2 c = entry-there _ _ _ (here (goal.at.returns-then-body-from-2 c).Else-body-from ∙ place_end _ _ (sym c.if-body-from-2.true))
-
-pub row_entry_at-requires : goal.row_entry_at-requires
-row_entry_at-requires c = c.base_of-base.ensures
 
 pub returns : goal.returns
 returns c =

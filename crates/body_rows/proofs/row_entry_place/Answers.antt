@@ -1,7 +1,5 @@
 -- `row_entry_place` meets its contract, place by place.
-use native.Mathlib.Omega.{arith}
-use mathlib.Core.Path.{sym, ap, ◌∙◌}
-use mathlib.Core.Bool.{Bool}
+use Rattle.std.proofs.Common.{Bool, arith, sym, ap, ◌∙◌}
 use Rattle.body_format.specs.Entries.{first_at}
 use Rattle.body_format.specs.Reading.{first_place}
 use Rattle.body_format.proofs.Laws.Places.{bad_zero, bad-past, bad_among, known-first, known-later}

@@ -1,13 +1,6 @@
 -- `row_time` meets its contract: the first time, or a delta added to it.
-use borrow.Author.Rules.{rules}
-use native.Mathlib.Omega.{arith}
-use Prim.Native.Nat.{ℕ, ◌+◌, ◌%◌, ◌^◌, ◌<◌}
-use mathlib.Core.Path.{◌≡◌, sym, ap, ◌∙◌}
-use lib.IntN.{ℤ}
+use Rattle.std.proofs.Common.{ℕ, ◌+◌, ◌%◌, ◌^◌, ◌<◌, ◌≡◌, ℤ, rules, arith, sym, ap, ◌∙◌, to_z-of_z, w64, SFits}
 use lib.Signed.{mag}
-use mir.Facts.{to_z-of_z}
-use mir.Syntax.{w64}
-use mir.Val.{SFits}
 use Rattle.varint.specs.Varint.{unzigzag}
 use Rattle.wal_types.specs.Deltas.{plus, to_bits, int_from_bits}
 use Rattle.wal_types.specs.DeltaLaws.{from_to, to_lt}
@@ -25,6 +18,3 @@ pub returns-then-zigzag-eq0 : goal.returns-then-zigzag-eq0
 returns-then-zigzag-eq0 c =
     let fits : SFits w64 c.args.first.0 = search rules in
     to_z-of_z {w = w64} fits ∙ same _ _ fits.sfits c.if-zigzag-eq0.true
-
-pub returns : goal.returns
-returns c = c.time_plus.ensures ∙ ap (λ (d : ℕ). int_from_bits (plus (to_bits c.args.first.0) d)) c.delta_of_zigzag.ensures

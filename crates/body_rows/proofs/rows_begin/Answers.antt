@@ -1,13 +1,9 @@
 -- `rows_begin` meets its contract, length by length.
-use mathlib.Core.Path.{sym, ap}
-use mathlib.Core.Bool.{true}
-use Rattle.body_format.proofs.Laws.Lists.{first_rows, first_one}
+use Rattle.std.proofs.Common.{sym, ap}
+use Rattle.body_format.proofs.Laws.Lists.{first_rows}
 use Rattle.body_rows.specs.Rows.{place_read}
 use Rattle.body_rows.proofs.Placing.{first_1, first_2}
 use Rattle.body_rows.proofs.rows_begin.Goals as goal
-
-pub returns-then-body-eq1 : goal.returns-then-body-eq1
-returns-then-body-eq1 c = sym (ap place_read (first_one true c.args.body.now c.if-body-eq1.true))
 
 pub returns-then-body-lt9 : goal.returns-then-body-lt9
 returns-then-body-lt9 c =

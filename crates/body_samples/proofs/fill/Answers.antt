@@ -1,17 +1,17 @@
 -- `fill` meets its contract: the plan, and then the rows.
-use Rattle.std.proofs.Common.{ℕ, length, arith, ap, ◌∙◌}
+use Rattle.std.proofs.Common.{sym, ap, ◌++◌, drop, ◌∙◌}
+use Rattle.wal_types.proofs.Passing.{passed_on}
 use Rattle.body_samples.specs.Filling.{samples_in}
-use Rattle.body_samples.specs.Rows.{fill_with, count_fits, filled}
+use Rattle.body_samples.proofs.Counting.{front_filled, unfilled}
 use Rattle.body_samples.proofs.fill.Goals as goal
 
-pub fill_rows-requires : goal.fill_rows-requires
-fill_rows-requires c =
-    omega (arith, c.plan_fill-plan.ensures.1, count_fits (samples_in c.args.body.now) (length c.args.list.now))
-
 pub returns : goal.returns
-returns c = (
-  c.plan_fill-plan.ensures.0,
-  c.fill_rows.ensures
-      ∙ ap (λ (n : ℕ). fill_with n 1 c.args.body.now 0 c.args.list.now) c.plan_fill-plan.ensures.1
-      ∙ filled c.args.body.now c.args.list.now,
-)
+returns c =
+    let a = c.args in
+    let e = sym c.in_ok-count.was ∙ c.plan_fill.ensures in
+    (e, ap (λ r. r ++ drop c.in_ok-count.count a.list.now) c.fill_rows.ensures ∙ front_filled a.body.now a.list.now _ e)
+
+pub returns-in_err-count : goal.returns-in_err-count
+returns-in_err-count c =
+    let e = sym c.in_err-count.was ∙ c.plan_fill.ensures in
+    (passed_on c.from_residual.result _ c.from_residual.ensures.1 ∙ e, unfilled (samples_in c.args.body.now) _ e)

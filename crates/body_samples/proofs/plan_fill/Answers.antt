@@ -1,14 +1,17 @@
 -- `plan_fill` meets its contract, by what was counted and the room.
-use mathlib.Core.Path.{sym, ◌∙◌}
+use Rattle.std.proofs.Common.{sym, ◌∙◌}
+use Rattle.wal_types.proofs.Passing.{passed_on}
 use Rattle.body_samples.specs.Filling.{samples_in}
 use Rattle.body_samples.proofs.Counting.{fits, full, bad}
 use Rattle.body_samples.proofs.plan_fill.Goals as goal
 
-pub returns-then-count-room : goal.returns-then-count-room
-returns-then-count-room c = fits (samples_in c.args.body.now) _ _ (sym c.count_samples.ensures ∙ c.in-Entries.is) c.if-count-room.true
+pub returns-then-room-count : goal.returns-then-room-count
+returns-then-room-count c = full (samples_in c.args.body.now) _ _ (sym c.count_samples.ensures ∙ c.in_ok-count.was) c.if-room-count.true
 
-pub returns-else-count-room : goal.returns-else-count-room
-returns-else-count-room c = full (samples_in c.args.body.now) _ _ (sym c.count_samples.ensures ∙ c.in-Entries.is) c.if-count-room.false
+pub returns : goal.returns
+returns c = fits (samples_in c.args.body.now) _ _ (sym c.count_samples.ensures ∙ c.in_ok-count.was) c.if-room-count.false
 
-pub returns-in-Refused : goal.returns-in-Refused
-returns-in-Refused c = bad (samples_in c.args.body.now) _ c.args.room (sym c.count_samples.ensures ∙ c.in-Refused.is)
+pub returns-in_err-count : goal.returns-in_err-count
+returns-in_err-count c =
+    passed_on c.from_residual.result _ c.from_residual.ensures.1
+    ∙ bad (samples_in c.args.body.now) _ c.args.room (sym c.count_samples.ensures ∙ c.in_err-count.was)

@@ -1,8 +1,5 @@
 -- `copy_aligned` meets its contract: a chunk, and then chunks of which the first may overlap it.
-use borrow.Author.Rules.{rules}
-use mathlib.Core.Path.{◌≡◌, ◌∙◌}
-use Prim.Native.Nat.{◌+◌, ◌-◌, ◌*◌, ◌/◌, ◌%◌}
-use native.Mathlib.Omega.{arith}
+use Rattle.std.proofs.Common.{◌≡◌, ◌∙◌, ◌+◌, ◌-◌, ◌*◌, ◌/◌, ◌%◌, arith}
 use Rattle.byte_copy.proofs.Stores.{put_last}
 use Rattle.byte_copy.proofs.copy_aligned.Goals as goal
 
@@ -13,4 +10,4 @@ returns c =
     let m = (a.count - skip) / 16 * 16 in
     let e : skip + m - m ≡ skip = omega arith in
     c.copy_chunks.ensures
-    ∙ rw e at (put_last a.source.now a.from a.to.now a.at (skip + m) m 16 (omega arith) (omega arith) (omega arith) (omega arith) c.copy16.ensures)
+    ∙ rw e at (put_last a.source.now a.from a.to.now a.at (skip + m) m 16 (omega arith) (omega arith) (omega arith) (omega arith) c.copy_array.ensures)

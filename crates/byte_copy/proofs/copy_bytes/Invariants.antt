@@ -1,15 +1,7 @@
--- `copy_bytes` meets its contract: the part of the source is stored byte by byte.
-use borrow.Author.Rules.{rules}
-use mathlib.Core.Path.{◌≡◌, refl, ap}
-use Prim.Native.Nat.{◌-◌, ◌≤◌}
-use native.Mathlib.Omega.{arith}
-use lib.ListN.{length}
-use lib.Seq.{length-sets}
-use Rattle.byte_copy.proofs.Stores.{put, put_byte}
+-- The first i bytes are stored.
+use Rattle.std.proofs.Common.{◌≡◌}
+use Rattle.byte_copy.proofs.Stores.{put}
 use Rattle.byte_copy.proofs.copy_bytes.Given as goal
 
 abbrev pub invariant-loop-i : goal.invariant-loop-i
-invariant-loop-i l = (l.i ≤ l.count) × (l.to ≡ put l.source l.from l.initial.to l.at l.i)
-
-abbrev pub decreases-loop-i : goal.decreases-loop-i
-decreases-loop-i l = l.count - l.i
+invariant-loop-i l = l.to ≡ put l.source l.from l.initial.to l.at l.i

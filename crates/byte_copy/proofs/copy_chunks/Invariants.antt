@@ -1,11 +1,6 @@
 -- `copy_chunks` meets its contract: the part of the source is stored chunk by chunk.
-use borrow.Author.Rules.{rules}
-use mathlib.Core.Path.{◌≡◌, refl, ap, ◌∙◌}
-use Prim.Native.Nat.{◌-◌, ◌*◌, ◌/◌, ◌%◌, ◌≤◌}
-use native.Mathlib.Omega.{arith}
-use lib.ListN.{length}
-use lib.Seq.{length-sets}
-use Rattle.byte_copy.proofs.Stores.{put, put_more}
+use Rattle.std.proofs.Common.{◌≡◌, ◌-◌, ◌%◌, ◌≤◌}
+use Rattle.byte_copy.proofs.Stores.{put}
 use Rattle.byte_copy.proofs.copy_chunks.Given as goal
 
 abbrev pub invariant-loop-i : goal.invariant-loop-i

@@ -1,10 +1,6 @@
 -- `after_rest` meets its contract: the second fold, at once; what is left of the 290 bytes has
 -- their register, in two parts.
-use borrow.Author.Rules.{rules}
-use native.Mathlib.Omega.{arith}
-use mathlib.Core.Path.{◌≡◌, refl, ◌∙◌}
-use Prim.Native.Nat.{◌-◌}
-use lib.ListN.{length, take, drop}
+use Rattle.std.proofs.Common.{arith, ◌≡◌, refl, ◌∙◌, ◌-◌, length, take, drop}
 use Rattle.crc32c_format.specs.Method.Fold.{onto130}
 use Rattle.crc32c_format.specs.Method.Sparse.{multiple130}
 use Rattle.crc32c_format.specs.Method.Parts.{length_part, get_d_part}

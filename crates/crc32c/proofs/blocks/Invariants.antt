@@ -1,14 +1,8 @@
 -- `blocks` meets its contract. The invariant: the register after the block in hand, with the bytes
 -- to come, gives what the whole gives.
-use borrow.Author.Rules.{rules}
-use native.Mathlib.Omega.{arith}
-use Prim.Native.Nat.{ℕ, ◌+◌, ◌-◌, ◌%◌, ◌≤◌}
-use mathlib.Core.Path.{◌≡◌, sym, ap, ◌∙◌}
-use lib.Bits.{bit_xor}
-use lib.ListN.{length, drop}
+use Rattle.std.proofs.Common.{◌-◌, ◌%◌, ◌≤◌, ◌≡◌, length, drop}
+use Rattle.std.specs.Int.Bits.{bit_xor}
 use Rattle.crc32c_format.specs.Crc.{bit_steps, register}
-use Rattle.crc32c_format.specs.Method.Parts.{register-done}
-use Rattle.crc32c.proofs.ByRows.{halves, in_hand, next_block}
 use Rattle.crc32c.proofs.blocks.Given as goal
 
 abbrev pub invariant-loop-i : goal.invariant-loop-i

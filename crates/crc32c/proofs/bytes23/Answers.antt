@@ -1,6 +1,5 @@
 -- `bytes23` meets its contract: two bytes, each by its row.
-use borrow.Author.Rules.{rules}
-use Prim.Native.Nat.{◌/◌, ◌%◌}
+use Rattle.std.proofs.Common.{◌/◌, ◌%◌}
 use Rattle.crc32c_format.specs.Method.Steps.{left_halves}
 use Rattle.crc32c.proofs.ByRows.{flipped}
 use Rattle.crc32c.proofs.bytes23.Goals as goal

@@ -1,5 +1,4 @@
 -- `bytes4567` meets its contract: four bytes, by halves.
-use borrow.Author.Rules.{rules}
 use Rattle.crc32c_format.specs.Method.Steps.{left_halves}
 use Rattle.crc32c.proofs.bytes4567.Goals as goal
 

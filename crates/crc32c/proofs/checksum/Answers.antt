@@ -1,8 +1,6 @@
 -- `checksum` meets its contract: the register from all ones, inverted.
-use borrow.Author.Rules.{rules}
-use mathlib.Core.Path.{ap}
-use Prim.Native.Nat.{ℕ}
-use lib.Bits.{bit_xor}
+use Rattle.std.proofs.Common.{ap, ℕ}
+use Rattle.std.specs.Int.Bits.{bit_xor}
 use Rattle.crc32c_format.specs.Crc.{crc32c}
 use Rattle.crc32c.proofs.checksum.Goals as goal
 

@@ -1,9 +1,6 @@
 -- `checksum_with_table` meets its contract: each branch is a case of the definition.
-use borrow.Author.Rules.{rules}
-use native.Mathlib.Omega.{arith}
-use mathlib.Core.Path.{sym, ap, ◌∙◌}
-use Prim.Native.Nat.{ℕ}
-use lib.Bits.{bit_xor}
+use Rattle.std.proofs.Common.{arith, sym, ap, ◌∙◌, ℕ}
+use Rattle.std.specs.Int.Bits.{bit_xor}
 use Rattle.crc32c_format.specs.Crc.{crc32c}
 use Rattle.crc32c_format.specs.Laws.{sum_by-long, sum_by-lent}
 use Rattle.crc32c.proofs.checksum_with_table.Goals as goal

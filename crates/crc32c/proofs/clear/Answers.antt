@@ -1,31 +1,26 @@
--- `clear` meets its contract. The invariant: zeros are stored up to i, and the window is as it was.
-use borrow.Author.Rules.{rules}
-use native.Mathlib.Omega.{arith}
-use mathlib.Core.Path.{◌≡◌, refl, subst, ◌∙◌}
-use mathlib.Core.Logic.{⊎_elim}
-use Prim.Native.Nat.{ℕ, ◌≤◌, ◌<◌, ◌-◌}
-use lib.ListN.{length, get_or, set, length-set}
-use lib.Seq.{get_or-set_same, get_or-set_other}
-use Rattle.crc32c_format.specs.Method.Lists.{lt_or_ge}
+-- `clear` meets its contract: zeros are stored, and the window is as it was.
+use Rattle.std.proofs.Common.{◌≡◌, ℕ, ◌-◌, ◌≤◌, ◌<◌, List, ◌++◌, ap, ◌∙◌, arith, length, get_or, take, drop, replicate, get_or-take, length-take-le, length-drop}
+use Rattle.std.proofs.Math.ListN.{get_or-append}
+use Rattle.std.proofs.lemmas.List.{get_or-replicate, get_or-append_right}
 use Rattle.crc32c.proofs.clear.Goals as goal
 
-pub loop-i-init : goal.loop-i-init
-loop-i-init c = (search rules, search rules, refl, λ k h. refl, λ k g h. absurd (omega arith))
+window : (y z : List ℕ) (k : ℕ) → 290 ≤ length y → k < 290 → get_or (take 290 y ++ z) k 0 ≡ get_or y k 0
+window y z k h l =
+    get_or-append (take 290 y) z 0 k (omega (arith, length-take-le 290 y h)) ∙ get_or-take 290 y k 0 l
 
-pub loop-i-preserved : goal.loop-i-preserved
-loop-i-preserved c =
-    let b = c in
-    let y = b.loop-i.y in
-    let i = b.loop-i.i in (
-      search rules,
-      search rules,
-      length-set y i 0 ∙ b.loop-i.invariant.2,
-      λ k h. get_or-set_other y i k 0 0 (λ e. omega arith) ∙ b.loop-i.invariant.3 k h,
-      λ k g h. ⊎_elim (λ (l : k < i). get_or-set_other y i k 0 0 (λ e. omega arith) ∙ b.loop-i.invariant.4 k g l)
-          (λ (l : i ≤ k). subst (λ (j : ℕ). get_or (set y i 0) j 0 ≡ 0) {x = i} {y = k} (omega arith) (get_or-set_same y i 0 0 (omega arith))) (lt_or_ge k i),
-    )
+zeros : (y o z : List ℕ) (k : ℕ) → o ≡ replicate 136 0 → 290 ≤ length y → 290 ≤ k → k < 426 → get_or (take 290 y ++ (o ++ z)) k 0 ≡ 0
+zeros y o z k e h g l =
+    ap (λ (p : List ℕ). get_or (take 290 y ++ (p ++ z)) k 0) e
+    ∙ get_or-append_right (take 290 y) (replicate 136 0 ++ z) 290 k 0 (length-take-le 290 y h) g
+    ∙ get_or-append (replicate 136 0) z 0 (k - 290) (omega arith)
+    ∙ get_or-replicate 136 (k - 290) 0 0 (omega arith)
 
 pub returns : goal.returns
 returns c =
-    let b = c in
-    record { before = b.loop-i.invariant.3; zero = λ k g h. b.loop-i.invariant.4 k g (omega arith) }
+    let y = c.args.y.now in
+    let n : length (take 136 (drop 290 y)) ≡ 136 = length-take-le 136 (drop 290 y) (omega (arith, length-drop 290 y)) in
+    let e : c.fill.new.self ≡ replicate 136 0 = c.fill.ensures.after (λ x p. p) ∙ ap (λ (m : ℕ). replicate m 0) n in
+    record {
+      before = λ k l. window y _ k (omega arith) l;
+      zero = λ k g l. zeros y c.fill.new.self _ k e (omega arith) g l;
+    }

@@ -1,8 +1,5 @@
 -- `load_first` meets its contract: of fewer than eight bytes, all.
-use borrow.Author.Rules.{rules}
-use native.Mathlib.Omega.{arith}
-use mathlib.Core.Path.{sym, ap, ◌∙◌}
-use lib.Seq.{take_all}
+use Rattle.std.proofs.Common.{arith, sym, ap, ◌∙◌, take_all}
 use Rattle.crc32c_format.specs.Bytes.{little_endian}
 use Rattle.crc32c.proofs.load_first.Goals as goal
 

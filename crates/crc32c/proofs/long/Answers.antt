@@ -1,10 +1,6 @@
 -- `long` meets its contract: the window slides over the message. The invariant: it is the window
 -- after the first i bytes.
-use borrow.Author.Rules.{rules}
-use native.Mathlib.Omega.{arith}
-use mathlib.Core.Path.{◌≡◌, refl, subst, ◌∙◌}
-use Prim.Native.Nat.{◌-◌, ◌≤◌}
-use lib.ListN.{length, take, drop}
+use Rattle.std.proofs.Common.{rules, arith, ◌≡◌, refl, subst, ◌∙◌, ◌-◌, length, take, drop}
 use Rattle.crc32c_format.specs.Method.Fold.{onto290}
 use Rattle.crc32c_format.specs.Method.Sparse.{multiple290}
 use Rattle.crc32c_format.specs.Method.Parts.{length_part, get_d_part}
@@ -20,28 +16,28 @@ fold-requires c =
     let b = c in
     let m = b.args.m.now in
     let l = length_part (length m - b.loop-i.i) m b.loop-i.i (omega arith) in
-    (omega (arith, c.smaller-n.ensures), omega (arith, c.smaller-n.ensures, b.loop-i.invariant.1))
+    (omega (arith, c.min-n.ensures), omega (arith, c.min-n.ensures, b.loop-i.invariant.1))
 
 pub slide-requires : goal.slide-requires
 slide-requires c =
     let l : length c.fold.new.y ≡ 2338 = omega arith in
-    omega (arith, c.smaller-n.ensures)
+    omega (arith, c.min-n.ensures)
 
 pub loop-i-smaller : goal.loop-i-smaller
-loop-i-smaller c = omega (arith, c.smaller-n.ensures)
+loop-i-smaller c = omega (arith, c.min-n.ensures)
 
 pub loop-i-preserved : goal.loop-i-preserved
 loop-i-preserved c =
     let b = c in
     let m = b.args.m.now in
     let i = b.loop-i.i in
-    let n = c.smaller-n.result in
+    let n = c.min-n.result in
     let l : length c.fold.new.y ≡ 2338 = omega arith in (
-      omega (arith, c.smaller-n.ensures),
+      omega (arith, c.min-n.ensures),
       search rules,
       window-slide onto290 multiple290 m (take (length m - i) (drop i m)) b.loop-i.y c.fold.new.y c.slide.new.y b.args.state i n b.loop-i.invariant.2
-          c.fold.ensures c.slide.ensures (omega (arith, c.smaller-n.ensures, l))
-          (λ k. omega (arith, b.type_inv.m k)) (λ j h. get_d_part (length m - i) m i j (omega (arith, c.smaller-n.ensures))),
+          c.fold.ensures c.slide.ensures (omega (arith, c.min-n.ensures, l))
+          (λ k. omega (arith, b.type_inv.m k)) (λ j h. get_d_part (length m - i) m i j (omega (arith, c.min-n.ensures))),
     )
 
 pub rest-requires : goal.rest-requires

@@ -1,14 +1,8 @@
 -- `long` meets its contract: the window slides over the message. The invariant: it is the window
 -- after the first i bytes.
-use borrow.Author.Rules.{rules}
-use native.Mathlib.Omega.{arith}
-use mathlib.Core.Path.{◌≡◌, refl, subst, ◌∙◌}
-use Prim.Native.Nat.{◌-◌, ◌≤◌}
-use lib.ListN.{length, take, drop}
+use Rattle.std.proofs.Common.{◌≡◌, ◌-◌, ◌≤◌, length}
 use Rattle.crc32c_format.specs.Method.Fold.{onto290}
-use Rattle.crc32c_format.specs.Method.Sparse.{multiple290}
-use Rattle.crc32c_format.specs.Method.Parts.{length_part, get_d_part}
-use Rattle.crc32c_format.specs.Method.Window.{Window, window-start, window-slide, register-fold}
+use Rattle.crc32c_format.specs.Method.Window.{Window}
 use Rattle.crc32c.proofs.long.Given as goal
 
 abbrev pub invariant-loop-i : goal.invariant-loop-i

@@ -1,8 +1,5 @@
 -- `register_by_table` meets its contract: the slices are passed on whole.
-use borrow.Author.Rules.{rules}
-use Prim.Native.Nat.{ℕ}
-use mathlib.Core.List.{List}
-use mathlib.Core.Path.{ap₂, ◌∙◌}
+use Rattle.std.proofs.Common.{rules, ℕ, List, ap₂, ◌∙◌}
 use Rattle.crc32c_format.specs.TableSum.{table_register}
 use Rattle.crc32c_format.specs.Laws.{whole_part}
 use Rattle.crc32c.proofs.register_by_table.Goals as goal

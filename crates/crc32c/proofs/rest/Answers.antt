@@ -1,28 +1,15 @@
--- `rest` meets its contract. The invariant: the first i bytes of r are stored.
-use borrow.Author.Rules.{rules}
-use native.Mathlib.Omega.{arith}
-use mathlib.Core.Path.{◌≡◌, ◌∙◌, refl}
-use Prim.Native.Nat.{ℕ, ◌≤◌, ◌<◌, ◌-◌}
-use lib.Bits.{bit_xor}
-use lib.ListN.{length, get_or, length-set}
+use Rattle.std.proofs.Common.{ℕ, refl, arith, get_or}
+use Rattle.std.specs.Int.Bits.{bit_xor}
 use Rattle.crc32c_format.specs.Method.Fold.{onto290, xor_over, taps}
 use Rattle.crc32c_format.specs.Method.Lists.{set_more}
 use Rattle.crc32c.proofs.rest.Goals as goal
 
-pub loop-i-init : goal.loop-i-init
-loop-i-init c = (search rules, search rules, λ k h. absurd (omega arith))
-
 pub loop-i-preserved : goal.loop-i-preserved
 unfolding taps xor_over
 loop-i-preserved c =
-    let b = c in
-    let a = b.args in (
-      search rules,
-      length-set b.loop-i.r b.loop-i.i _ ∙ b.loop-i.invariant.1,
-      set_more (λ (k : ℕ). bit_xor (get_or a.m.now k 0) (taps onto290 a.y.now k)) b.loop-i.r b.loop-i.i (omega arith) refl b.loop-i.invariant.2,
-    )
+    let a = c.args in
+    let l = c.loop-i in
+    set_more (λ (k : ℕ). bit_xor (get_or a.m.now k 0) (taps onto290 a.y.now k)) l.r l.i (omega arith) refl l.invariant
 
 pub returns : goal.returns
-returns c =
-    let b = c in
-    record { len = b.loop-i.invariant.1; byte = λ j h. b.loop-i.invariant.2 j (omega arith) }
+returns c = record { len = omega arith; byte = λ j h. c.loop-i.invariant j (omega arith) }

@@ -1,6 +1,5 @@
 -- `short` meets its contract: the slice is passed on whole.
-use borrow.Author.Rules.{rules}
-use mathlib.Core.Path.{ap, ◌∙◌}
+use Rattle.std.proofs.Common.{ap, ◌∙◌}
 use Rattle.crc32c_format.specs.Crc.{register}
 use Rattle.crc32c_format.specs.Laws.{whole_part}
 use Rattle.crc32c.proofs.short.Goals as goal

@@ -1,9 +1,7 @@
 -- `table_byte` meets its contract: one byte by a caller's table is the definition.
-use borrow.Author.Rules.{rules}
-use mathlib.Core.Path.{refl}
 use Rattle.crc32c_format.specs.TableSum.{table_step1}
 use Rattle.crc32c.proofs.table_byte.Goals as goal
 
 pub returns : goal.returns
 unfolding table_step1
-returns c = refl
+returns c = cc c.from.ensures

@@ -1,10 +1,6 @@
 -- `table_eights` meets its contract. The invariant: the steps to come, from the register so far,
 -- give what all give.
-use borrow.Author.Rules.{rules}
-use native.Mathlib.Omega.{arith}
-use Prim.Native.Nat.{ℕ, ◌+◌, ◌-◌, ◌/◌, ◌≤◌}
-use mathlib.Core.Path.{◌≡◌, sym, ap, ◌∙◌}
-use lib.ListN.{length, drop}
+use Rattle.std.proofs.Common.{arith, ℕ, ◌+◌, ◌-◌, ◌/◌, sym, ap, ◌∙◌, length, drop}
 use Rattle.crc32c_format.specs.TableSum.{steps, table_step8}
 use Rattle.crc32c_format.specs.Method.Slicing.{steps_more, steps-none}
 use Rattle.crc32c.proofs.table_eights.Goals as goal

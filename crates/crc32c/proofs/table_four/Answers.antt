@@ -1,8 +1,5 @@
 -- `table_four` meets its contract: four bytes more by a caller's table, where four are left.
-use borrow.Author.Rules.{rules}
-use native.Mathlib.Omega.{arith}
-use mathlib.Core.Path.{sym, ◌∙◌}
-use lib.ListN.{drop}
+use Rattle.std.proofs.Common.{arith, sym, ◌∙◌, drop}
 use Rattle.crc32c_format.specs.TableSum.{table_step4}
 use Rattle.crc32c_format.specs.Method.Slicing.{steps_once, steps-none}
 use Rattle.crc32c.proofs.table_four.Goals as goal

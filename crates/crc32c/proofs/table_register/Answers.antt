@@ -1,5 +1,4 @@
 -- `table_register` meets its contract: its three loops are the definition's three runs of steps.
-use borrow.Author.Rules.{rules}
 use Rattle.crc32c_format.specs.Method.Slicing.{table_register_of}
 use Rattle.crc32c.proofs.table_register.Goals as goal
 

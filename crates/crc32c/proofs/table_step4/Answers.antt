@@ -1,9 +1,7 @@
 -- `table_step4` meets its contract: four bytes by a caller's table.
-use borrow.Author.Rules.{rules}
-use Prim.Native.Nat.{ℕ}
-use mathlib.Core.Path.{ap, ◌∙◌}
+use Rattle.std.proofs.Common.{ℕ, ap, ◌∙◌}
 use Rattle.crc32c_format.specs.TableSum.{look_up4, table_step4}
-use lib.Bits.{bit_xor}
+use Rattle.std.specs.Int.Bits.{bit_xor}
 use Rattle.crc32c.proofs.table_step4.Goals as goal
 
 pub returns : goal.returns

@@ -1,5 +1,4 @@
 -- `table_step8` meets its contract: eight bytes by a caller's table.
-use borrow.Author.Rules.{rules}
 use Rattle.crc32c_format.specs.Method.Slicing.{table_step8-at}
 use Rattle.crc32c.proofs.table_step8.Goals as goal
 

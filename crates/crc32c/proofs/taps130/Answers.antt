@@ -1,6 +1,5 @@
 -- `taps130` meets its contract: the definition, term by term.
-use borrow.Author.Rules.{rules}
-use mathlib.Core.Path.{refl}
+use Rattle.std.proofs.Common.{refl}
 use Rattle.crc32c_format.specs.Method.Fold.{xor_over, taps}
 use Rattle.crc32c.proofs.taps130.Goals as goal
 

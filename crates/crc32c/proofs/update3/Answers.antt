@@ -1,7 +1,5 @@
 -- `update3` meets its contract: three steps of one byte.
-use borrow.Author.Rules.{rules}
-use native.Mathlib.Omega.{arith}
-use mathlib.Core.Path.{sym, ◌∙◌}
+use Rattle.std.proofs.Common.{arith, sym, ◌∙◌}
 use Rattle.crc32c_format.specs.Laws.{register_by-short, register_by-lent}
 use Rattle.crc32c_format.specs.Method.Slicing.{table_register_three}
 use Rattle.crc32c.proofs.update3.Goals as goal

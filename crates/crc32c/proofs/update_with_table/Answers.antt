@@ -1,7 +1,5 @@
 -- `update_with_table` meets its contract: each branch is a case of the definition.
-use borrow.Author.Rules.{rules}
-use native.Mathlib.Omega.{arith}
-use mathlib.Core.Path.{sym, ◌∙◌}
+use Rattle.std.proofs.Common.{arith, sym, ◌∙◌}
 use Rattle.crc32c_format.specs.Laws.{register_by-short, register_by-long, register_by-lent}
 use Rattle.crc32c.proofs.update_with_table.Goals as goal
 

@@ -1,13 +1,9 @@
--- `delta_of_zigzag` meets its contract: half of u, or all 64 bits inverted.
-use Rattle.std.proofs.Common.{rules, eq-eqb, ne_eqb}
-use Rattle.varint.specs.Varint.{unzigzag}
+-- `delta_of_zigzag` meets its contract: the bits of the signed number.
+use Rattle.std.proofs.Common.{◌∙◌, ap, w64, to_z-of_z}
 use Rattle.wal_types.specs.Deltas.{to_bits}
 use Rattle.delta.proofs.delta_of_zigzag.Goals as goal
 
-pub returns-then-u-eq0 : goal.returns-then-u-eq0
-unfolding to_bits unzigzag
-returns-then-u-eq0 c = rw (eq-eqb _ _ c.if-u-eq0.true, unzigzag)
-
-pub returns-else-u-eq0 : goal.returns-else-u-eq0
-unfolding to_bits unzigzag
-returns-else-u-eq0 c = rw (ne_eqb _ _ c.if-u-eq0.false, unzigzag)
+pub returns : goal.returns
+returns c =
+    c.bits_of.ensures
+    ∙ ap to_bits (to_z-of_z {w = w64} (record { sfits = c.zigzag_back.type_inv }) ∙ c.zigzag_back.ensures)

@@ -1,13 +1,14 @@
--- `zigzag_of_delta` meets its contract, by the sign of the number that the bits are.
-use Rattle.std.proofs.Common.{◌^◌, arith, rules, le-ltb, lt-ltb}
+-- `zigzag_of_delta` meets its contract: std's signed number of 64 bits is the format's.
+use Rattle.std.proofs.Common.{◌≡◌, ◌∙◌, ap, cond, ℕ, ◌^◌, nat_lt, pos, negsuc, to_z, w64, arith, to_z-of_z}
 use Rattle.varint.specs.Varint.{zigzag}
 use Rattle.wal_types.specs.Deltas.{int_from_bits}
 use Rattle.delta.proofs.zigzag_of_delta.Goals as goal
 
-pub returns-then-delta-lt9223372036854775808 : goal.returns-then-delta-lt9223372036854775808
-unfolding zigzag int_from_bits
-returns-then-delta-lt9223372036854775808 c = rw (lt-ltb c.args.delta (2 ^ 63) c.if-delta-lt9223372036854775808.true) (omega (arith, c.wrapping_add_u64-twice.ensures.value))
+same : (u : ℕ) → to_z w64 u ≡ int_from_bits u
+unfolding int_from_bits
+same u = ap (λ n. cond (nat_lt u (2 ^ 63)) (pos u) (negsuc n)) (omega arith)
 
-pub returns-else-delta-lt9223372036854775808 : goal.returns-else-delta-lt9223372036854775808
-unfolding zigzag int_from_bits
-returns-else-delta-lt9223372036854775808 c = rw (le-ltb c.args.delta (2 ^ 63) c.if-delta-lt9223372036854775808.false) (omega (arith, c.wrapping_add_u64-twice.ensures.value))
+pub returns : goal.returns
+returns c =
+    c.zigzag_of.ensures
+    ∙ ap zigzag (to_z-of_z {w = w64} (record { sfits = c.cast_signed.type_inv }) ∙ c.cast_signed.ensures ∙ same c.args.delta)

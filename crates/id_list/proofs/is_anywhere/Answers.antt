@@ -1,30 +1,23 @@
--- `is_anywhere` meets its contract. The invariant: the id is listed in what is left, if it is in the list.
-use borrow.Author.Rules.{rules}
-use native.Mathlib.Omega.{arith}
-use Prim.Native.Nat.{◌-◌}
-use mathlib.Core.Path.{◌≡◌, refl, sym, ◌∙◌}
-use lib.ListN.{length, drop}
+-- `is_anywhere` meets its contract: by the first place that has the id.
+use Rattle.std.specs.Prelude.{◌≡◌, ◌≢◌, is_some}
+use Rattle.std.proofs.Common.{rules, tests}
+use Rattle.std.proofs.lemmas.Iterator.{IsFirst-from_position, YieldsList-from_slice}
 use Rattle.checkpoint_format.specs.Keeping.{is_listed}
-use Rattle.id_list.proofs.Ordering.{listed_at, listed-step, listed-end}
+use Rattle.id_list.proofs.Ordering.{by_place}
 use Rattle.id_list.proofs.is_anywhere.Goals as goal
+use Rattle.id_list.proofs.is_anywhere.Goals.{After-position}
 
-pub loop-i-init : goal.loop-i-init
-loop-i-init c = refl
+found : (c : After-position) → is_some c.position.result ≡ is_listed c.args.id c.args.ids.now
+found c =
+    let ids = c.args.ids.now in
+    let id = c.args.id in
+    let r = c.position.result in
+    by_place ids id r
+    (IsFirst-from_position _ _ r (λ x. x ≡ id) (λ x. x ≢ id) c.position.ensures.ran
+    (YieldsList-from_slice ids cc) (λ x q k. search (rules, tests)) (λ x q k. search (rules, tests)))
 
-pub returns-then-ids-i : goal.returns-then-ids-i
-returns-then-ids-i c =
-    let l = c.loop-i in
-    let a = c.args in
-    listed_at a.id l.i a.ids.now (omega arith) c.if-ids-i.true
-
-pub loop-i-preserved : goal.loop-i-preserved
-loop-i-preserved c =
-    let l = c.loop-i in
-    let a = c.args in
-    listed-step a.id l.i a.ids.now (omega arith) c.if-ids-i.false ∙ l.invariant
+pub returns-in_default : goal.returns-in_default
+returns-in_default c = rw c.in_default.is at (found (goal.at.returns-in_default c).After-position)
 
 pub returns : goal.returns
-returns c =
-    let l = c.loop-i in
-    let a = c.args in
-    sym (listed-end a.id l.i a.ids.now (omega arith)) ∙ l.invariant
+returns c = rw c.in-Some.is at (found (goal.at.returns c).After-position)

@@ -1,31 +1,20 @@
--- `is_in_order` meets its contract: by the neighbours at a place.
-use borrow.Author.Rules.{rules}
-use native.Mathlib.Omega.{arith}
-use Rattle.id_list.proofs.Ordering.{none-listed, before-all, by_neighbours}
+-- `is_in_order` meets its contract: by the neighbours at a place, or by a search.
+use Rattle.std.proofs.Common.{◌∙◌, arith}
+use Rattle.id_list.proofs.Ordering.{before_all, by_neighbours, by_search}
 use Rattle.id_list.proofs.is_in_order.Goals as goal
 
-pub returns-then-ids-eq0 : goal.returns-then-ids-eq0
-returns-then-ids-eq0 c =
-    let a = c.args in
-    λ h. none-listed a.ids.now a.id c.if-ids-eq0.true
+pub returns-in_default : goal.returns-in_default
+returns-in_default c = before_all c.args.ids.now c.args.id (λ h. absurd (omega (arith, c.in_default.ensures.item.3)))
 
-pub returns-then-id-ids : goal.returns-then-id-ids
-returns-then-id-ids c =
-    let a = c.args in
-    λ h. before-all a.ids.now a.id (omega arith) h
-
-pub offset_bounds-ids-hint : goal.offset_bounds-ids-hint
-offset_bounds-ids-hint c = omega (arith, (c.is_below.ensures c.if-is_below.true).inside)
-
-pub bounds-ids-hint : goal.bounds-ids-hint
-bounds-ids-hint c = (c.is_below.ensures c.if-is_below.true).inside
+pub returns-then-id-first : goal.returns-then-id-first
+returns-then-id-first c =
+    before_all c.args.ids.now c.args.id (λ h. omega (arith, c.in-Some.ensures.item.3.1 0))
 
 pub returns-then-is_below : goal.returns-then-is_below
 returns-then-is_below c =
-    let a = c.args in
-    λ h. by_neighbours a.ids.now a.id a.hint (c.is_below.ensures c.if-is_below.true) h
+    by_neighbours c.args.ids.now c.args.id c.args.hint.now (c.is_below.ensures c.if-is_below.true)
 
 pub returns : goal.returns
 returns c =
     let a = c.args in
-    λ h. by_neighbours a.ids.now a.id c.place_below-place.result c.place_below-place.ensures h
+    λ h. c.is_ok.ensures.value ∙ by_search a.ids.now a.id c.binary_search-found.result c.binary_search-found.ensures.position h

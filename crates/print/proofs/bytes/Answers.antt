@@ -11,7 +11,7 @@ loop-b-init g c = appends_nothing _
 
 pub loop-b-preserved : goal.loop-b-preserved
 loop-b-preserved g c =
-    let items : _ = take c.smaller-count.result c.args.s.now in
+    let items : _ = take c.min-count.result c.args.s.now in
     let in_bounds : c.loop-b.b-index < length items = search rules in
     subst (λ digits. Appends (g.W.Write.contents c.args.out.now) (g.W.Write.contents c.byte.new.out) digits)
     (sym (hex_pairs_more items c.loop-b.b-index in_bounds))

@@ -3,11 +3,8 @@
 -- Assumes nothing.
 use Rattle.std.specs.Prelude.{◌≡◌, Bool, ◌||◌, ◌&&◌, get_or, take, ltb, leb, eqb}
 use Rattle.std.proofs.Math.Path.{refl, ap}
-use Rattle.std.proofs.Common.{◌∙◌, arith, length-append, length-take, length-set}
+use Rattle.std.proofs.Common.{◌∙◌, arith, length-append, length-take, length-set, List, [], ◌∷◌, ℕ, zero, suc, ◌≤◌, le-leb, leb-true, ltb-true}
 use Rattle.std.proofs.Math.Bool.{true, false, cond}
-use mathlib.Core.List.{List, [], ◌∷◌}
-use Prim.Native.Nat.{ℕ, zero, suc, ◌≤◌}
-use borrow.Author.Tests.{le-leb, leb-true, ltb-true}
 use Rattle.std.proofs.Math.ListN.{length}
 use Rattle.wal_types.specs.declared.Version.{Version}
 use Rattle.segment_format.proofs.Laws.Lists.{cond_ind}
@@ -15,10 +12,10 @@ use Rattle.body_format.specs.Fields.{Field, got, fault}
 use Rattle.body_format.specs.Entries.{Entry}
 use Rattle.log_format.specs.Replay.{entries_in, is_unknown}
 use Rattle.feed_format.specs.declared.GoodFeed.{GoodFeed}
-use Rattle.feed_format.specs.declared.PageAnswer.{PageAnswer}
-use Rattle.feed_format.specs.declared.PageAnswer.TheVariants.{Taken, Refused as PageRefused}
-use Rattle.feed_format.specs.declared.FeedAnswer.{FeedAnswer}
-use Rattle.feed_format.specs.declared.FeedAnswer.TheVariants.{Record, More, End, Refused}
+use Rattle.feed_format.specs.Results.PageAnswer.{PageAnswer}
+use Rattle.feed_format.specs.Results.PageAnswer.{Taken, Refused as PageRefused}
+use Rattle.feed_format.specs.Results.FeedAnswer.{FeedAnswer}
+use Rattle.feed_format.specs.Results.FeedAnswer.{RecordOf, More, End, Refused}
 use Rattle.feed_format.specs.Pairing.{good_fresh, good_feed_on, good_read_on}
 use Rattle.report_format.specs.declared.PageReport.{PageReport}
 use Rattle.report_format.specs.Readings.{Reading, readings_of, Line}
@@ -96,8 +93,8 @@ read_grows : (a : FeedAnswer) (f : GoodFeed) (go : Report (List Line) → Turn (
     → Fits r
     → ((q : Report (List Line)) → Fits q → Passed q (go q))
     → Passed r (on_read (List Line) note_all length a f go r b)
-read_grows (Record start n q) f go r b fits ih =
-    record_grows (add_record (List Line) note_all length (take n b) r.kept) start.0 f go r b (wide-record (take n b) r.kept fits.room) fits ih
+read_grows (RecordOf d) f go r b fits ih =
+    record_grows (add_record (List Line) note_all length (take d.length b) r.kept) d.start.0 f go r b (wide-record (take d.length b) r.kept fits.room) fits ih
 read_grows More f go r b fits ih = grows_none r fits
 read_grows End f go r b fits ih = grows_none r fits
 read_grows (Refused why) f go r b fits ih = grows_none r fits

@@ -4,30 +4,28 @@
 -- Assumes nothing.
 use Rattle.std.specs.Prelude.{◌≡◌, Bool, true, false, ltb}
 use Rattle.std.proofs.Math.Path.{refl, sym, ap, subst}
-use Rattle.std.proofs.Common.{◌∙◌, arith, lt-ltb, le-ltb, ltb-true, ltb-false, take-append-drop}
+use Rattle.std.proofs.Common.{◌∙◌, arith, lt-ltb, le-ltb, ltb-true, ltb-false, take-append-drop, List, [], ◌∷◌, ◌++◌, append_assoc, append-nil, ℕ, zero, suc, ◌+◌, ◌*◌, ◌≤◌, ◌<◌}
 use Rattle.std.proofs.Math.Bool.{cond}
-use mathlib.Core.List.{List, [], ◌∷◌, ◌++◌, append_assoc, append-nil}
-use Prim.Native.Nat.{ℕ, zero, suc, ◌+◌, ◌*◌, ◌≤◌, ◌<◌}
 use Rattle.std.proofs.Math.ListN.{length, take, drop, length-append, length-take, length-drop}
 use Rattle.std.proofs.Math.Seq.{take-append_seam}
 use Rattle.wal_types.specs.declared.Refusal.{Refusal}
 use Rattle.wal_types.specs.declared.Refusal.TheVariants.{BadBuffer}
 use Rattle.wal_types.specs.Sizes.{page_size, record_limit, segment_limit}
-use Rattle.segment_format.specs.declared.ReadAnswer.{ReadAnswer}
+use Rattle.segment_format.specs.Results.ReadAnswer.{ReadAnswer}
 use Rattle.segment_format.specs.Reading.{closed, Found, whole, clean, torn, refused, run, answer_for, buffer_for}
 use Rattle.segment_format.specs.Calls.{Delivered, delivered, NoRecord}
 use Rattle.segment_format.proofs.Laws.Steps.{find-run}
 use Rattle.segment_format.proofs.Laws.Longer.{Stays, stays-run}
 use Rattle.segment_format.proofs.Laws.Longer.Stays.{same, by-clean, by-torn}
 use Rattle.segment_format.proofs.Laws.Reads.{Finds, found, final}
-use Rattle.feed_format.specs.declared.Standing.TheVariants.{Clear}
+use Rattle.feed_format.specs.Results.Standing.{Clear}
 use Rattle.feed_format.specs.declared.Fed.{Fed}
 use Rattle.feed_format.specs.declared.GoodFeed.{GoodFeed}
 use Rattle.feed_format.specs.declared.GoodFed.{GoodFed}
-use Rattle.feed_format.specs.declared.PageAnswer.{PageAnswer}
-use Rattle.feed_format.specs.declared.PageAnswer.TheVariants.{Taken}
-use Rattle.feed_format.specs.declared.FeedAnswer.{FeedAnswer}
-use Rattle.feed_format.specs.declared.FeedAnswer.TheVariants.{Refused}
+use Rattle.feed_format.specs.Results.PageAnswer.{PageAnswer}
+use Rattle.feed_format.specs.Results.PageAnswer.{Taken}
+use Rattle.feed_format.specs.Results.FeedAnswer.{FeedAnswer}
+use Rattle.feed_format.specs.Results.FeedAnswer.{Refused}
 use Rattle.feed_format.specs.Feeding.{feed_rule, feed_on, Got, here, read_on}
 use Rattle.feed_format.specs.Meaning.{Stream, Out, fed, read, Turn as Passed, turn as passed, takes, feed_turn, feed_meant, gather, front, no_further, found_read, read_meant}
 use Rattle.feed_format.specs.Claims.{as_fed, Begins}

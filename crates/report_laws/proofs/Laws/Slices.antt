@@ -3,13 +3,12 @@
 -- Assumes nothing.
 use Rattle.std.specs.Prelude.{◌≡◌, Bool, cond, List, [], ℕ, zero, suc, ◌+◌, ◌*◌, ◌≤◌, ◌<◌, length, take, drop, eqb}
 use Rattle.std.proofs.Math.Path.{refl}
-use Rattle.std.proofs.Common.{sym, subst, ltb-true, ltb-false, eqb-true, length-take}
+use Rattle.std.proofs.Common.{sym, subst, ltb-true, ltb-false, eqb-true, length-take, arith}
 use Rattle.std.proofs.Math.Bool.{true, false}
-use native.Mathlib.Omega.{arith}
 use Rattle.std.proofs.Math.Dec.{ltb}
 use Rattle.wal_types.specs.declared.Refusal.TheVariants.{BadBuffer}
 use Rattle.wal_types.specs.declared.Version.{Version}
-use Rattle.wal_types.specs.declared.VersionFound.TheVariants.{Known}
+use Rattle.wal_types.specs.Results.VersionFound.{Known}
 use Rattle.wal_types.specs.Sizes.{page_size, record_limit, segment_limit}
 use Rattle.segment_format.specs.Calls.{read_all}
 use Rattle.segment_format.proofs.Laws.Reads.{gives-finds, read_all-gives}

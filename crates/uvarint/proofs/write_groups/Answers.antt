@@ -1,12 +1,6 @@
 -- `write_groups` meets its contract. The loop's invariant: writing the groups that are left
 -- completes the number.
-use borrow.Author.Rules.{rules}
-use native.Mathlib.Omega.{arith}
-use Prim.Native.Nat.{ℕ, suc, ◌+◌, ◌/◌, ◌%◌, ◌≤◌}
-use mathlib.Core.Path.{◌≡◌, refl, ◌∙◌}
-use mathlib.Core.List.{List}
-use lib.ListN.{length, set, length-set}
-use native.Mathlib.Numerals.{add-one}
+use Rattle.std.proofs.Common.{ℕ, suc, ◌+◌, ◌/◌, ◌%◌, ◌≤◌, ◌≡◌, List, length, set, arith, ◌∙◌, length-set, add-one}
 use lib.Seq.{sets}
 use Rattle.uvarint.specs.Uvarint.{uvarint}
 use Rattle.uvarint.specs.UvarintLaws.{one_group, more_groups, length-one, length_more}
@@ -23,17 +17,8 @@ longer c = length_more c.loop-rest.rest c.loop-rest-test.true
 one_left : (c : After-loop-rest) → length (uvarint c.loop-rest.rest) ≡ 1
 one_left c = length-one c.loop-rest.rest c.loop-rest-test.false
 
-pub loop-rest-init : goal.loop-rest-init
-loop-rest-init c = (refl, refl, refl)
-
 pub bounds-buf-i : goal.bounds-buf-i
 bounds-buf-i c = omega (arith, longer (goal.at.bounds-buf-i c).In-loop-rest)
-
-pub overflow_add-i : goal.overflow_add-i
-overflow_add-i c = omega (arith, longer (goal.at.overflow_add-i c).In-loop-rest)
-
-pub loop-rest-smaller : goal.loop-rest-smaller
-loop-rest-smaller c = omega arith
 
 pub loop-rest-preserved : goal.loop-rest-preserved
 loop-rest-preserved c =
@@ -45,9 +30,6 @@ loop-rest-preserved c =
 
 pub bounds-buf-i-2 : goal.bounds-buf-i-2
 bounds-buf-i-2 c = omega (arith, one_left (goal.at.bounds-buf-i-2 c).After-loop-rest)
-
-pub overflow_add-result : goal.overflow_add-result
-overflow_add-result c = omega (arith, one_left (goal.at.overflow_add-result c).After-loop-rest)
 
 pub returns : goal.returns
 returns c =

@@ -1,15 +1,8 @@
 -- `write_groups` meets its contract. The loop's invariant: writing the groups that are left
 -- completes the number.
-use borrow.Author.Rules.{rules}
-use native.Mathlib.Omega.{arith}
-use Prim.Native.Nat.{ℕ, suc, ◌+◌, ◌/◌, ◌%◌, ◌≤◌}
-use mathlib.Core.Path.{◌≡◌, refl, ◌∙◌}
-use mathlib.Core.List.{List}
-use lib.ListN.{length, set, length-set}
-use native.Mathlib.Numerals.{add-one}
+use Rattle.std.proofs.Common.{◌+◌, ◌≡◌, length}
 use lib.Seq.{sets}
 use Rattle.uvarint.specs.Uvarint.{uvarint}
-use Rattle.uvarint.specs.UvarintLaws.{one_group, more_groups, length-one, length_more}
 use Rattle.uvarint.proofs.write_groups.Given as goal
 
 abbrev pub invariant-loop-rest : goal.invariant-loop-rest

@@ -1,8 +1,5 @@
 -- `put_varint` meets its contract: the zigzag's uvarint is stored.
-use borrow.Author.Rules.{rules}
-use Prim.Native.Nat.{ℕ}
-use mathlib.Core.Path.{ap, ◌∙◌}
-use mir.Facts.{to_z-of_z}
+use Rattle.std.proofs.Common.{ℕ, ap, ◌∙◌, to_z-of_z}
 use Rattle.byte_copy.specs.Put.{put_at, put_end}
 use Rattle.uvarint.specs.Uvarint.{uvarint}
 use Rattle.varint.specs.Varint.{zigzag, varint}

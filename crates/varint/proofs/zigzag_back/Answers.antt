@@ -1,17 +1,9 @@
 -- `zigzag_back` meets its contract: half of u, or −1 − half of u.
-use borrow.Author.Rules.{rules}
-use native.Mathlib.Omega.{arith}
-use Prim.Native.Nat.{◌/◌, ◌^◌, ◌<◌}
-use mathlib.Core.Path.{◌∙◌}
-use borrow.Author.Tests.{eq-eqb, ne_eqb}
-use mir.Facts.{to_z-of_z, to_z_pos}
-use mir.Syntax.{w64}
+use Rattle.std.proofs.Common.{◌/◌, arith, ◌∙◌, eq-eqb, ne_eqb, to_z-of_z, w64}
+use mir.Facts.{to_z_pos}
 use Rattle.varint.specs.Varint.{unzigzag}
 use Rattle.numbers.specs.Signs.{minus_pos}
 use Rattle.varint.proofs.zigzag_back.Goals as goal
-
-pub overflow_sub-result : goal.overflow_sub-result
-overflow_sub-result c = rw (to_z_pos w64 {n = c.args.u / 2} (omega arith), minus_pos) (record { sfits = omega arith })
 
 pub returns-then-u-eq0 : goal.returns-then-u-eq0
 unfolding unzigzag

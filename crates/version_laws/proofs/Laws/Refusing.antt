@@ -2,11 +2,8 @@
 -- fragment when it is read with the other.
 use Rattle.std.specs.Prelude.{◌≡◌, Bool, cond, drop, ltb}
 use Rattle.std.proofs.Math.Path.{refl, sym, ap}
-use Rattle.std.proofs.Common.{◌∙◌, arith, take-append-drop}
+use Rattle.std.proofs.Common.{◌∙◌, arith, take-append-drop, List, [], ◌∷◌, ◌++◌, append_assoc, ℕ, zero, suc, ◌+◌, ◌*◌, ◌-◌, ◌/◌, ◌%◌, ◌≤◌, ◌<◌, le-ltb, leb-true, leb-false, ne_eqb}
 use Rattle.std.proofs.Math.Bool.{true, false}
-use mathlib.Core.List.{List, [], ◌∷◌, ◌++◌, append_assoc}
-use Prim.Native.Nat.{ℕ, zero, suc, ◌+◌, ◌*◌, ◌-◌, ◌/◌, ◌%◌, ◌≤◌, ◌<◌}
-use borrow.Author.Tests.{le-ltb, leb-true, leb-false, ne_eqb}
 use Rattle.std.proofs.Math.ListN.{length, take, length-append}
 use Rattle.std.proofs.Math.Seq.{take-append_seam, take-take, take_at, length-take-le}
 use Rattle.std.proofs.Math.Dec.{leb}
@@ -14,7 +11,7 @@ use Rattle.big_endian.specs.Fixed.{read_be2, read_be4}
 use Rattle.wal_types.specs.declared.Refusal.TheVariants.{BadSum}
 use Rattle.wal_types.specs.Terms.{offset}
 use Rattle.wal_types.specs.Sizes.{segment_limit}
-use Rattle.segment_format.specs.declared.ReadAnswer.TheVariants.{Refused}
+use Rattle.segment_format.specs.Results.ReadAnswer.{Refused}
 use Rattle.segment_format.specs.Reading.{closed, bad, short, is_hollow, sized, filled, typed, step, refused, on_step, run}
 use Rattle.segment_format.specs.Writing.{fragment, kind, split, fragments, filler, fragment_bytes, fragments_bytes, encode, encode_padded, place_after, next_place}
 use Rattle.segment_format.specs.Calls.{Delivered, delivered, reader, Gives, survivors}

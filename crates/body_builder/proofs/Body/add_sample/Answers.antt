@@ -1,45 +1,36 @@
 -- `Body::add_sample` meets its contract: the size, the gate, and then the puts.
-use mathlib.Core.Path.{◌≡◌, ap, ◌∙◌}
-use mathlib.Core.Bool.{false}
-use lib.ListN.{length}
-use Rattle.wal_types.specs.Deltas.{to_bits}
+use Rattle.std.proofs.Common.{◌∙◌, ap, false}
+use Rattle.std.specs.Prelude.{Some}
 use Rattle.body_format.specs.Entries.{sample_entry}
 use Rattle.body_format.specs.Building.{entry_bytes}
-use Rattle.body_builder.specs.Sizes.{deltas_in, zigzags_of}
-use Rattle.body_builder.specs.Laws.Additions.{Opened, opened, shut, finished, Sized, exact}
-use Rattle.body_builder.proofs.Sizing.{row_sized}
+use Rattle.body_builder.specs.Sizes.{zigzags_of}
+use Rattle.body_builder.specs.Laws.Additions.{Opened, admitted, turned_away, finished}
+use Rattle.body_builder.proofs.Sizing.{sample_sized}
 use Rattle.body_builder.proofs.Body.add_sample.Goals as goal
-use Rattle.body_builder.proofs.Body.add_sample.Goals.{After-row_size-size, After-zigzags-row, In-Open}
+use Rattle.body_builder.proofs.Body.add_sample.Goals.{In_ok-admit}
 
--- the zigzags of the row's deltas
-zigzagged : (c : After-zigzags-row) →
+opens : (c : In_ok-admit) → let a = c.args in Opened a.buffer.now a.self.tag a.self.used.0 (sample_entry a.id.0 a.time.0 a.bits) false
+opens c =
     let a = c.args in
-    c.zigzags-row.result ≡ zigzags_of (deltas_in a.buffer.now a.self.used.0 a.id.0 (to_bits a.time.0))
-zigzagged c = c.zigzags-row.ensures ∙ ap zigzags_of c.deltas_of.ensures
-
-sized : (c : After-row_size-size) →
-    let s = c in
-    false ≡ false → Sized c.row_size-size.result (length (entry_bytes s.args.buffer.now s.args.self.used.0 ((sample_entry s.args.id.0 s.args.time.0 s.args.bits))))
-unfolding entry_bytes
-sized c h =
-    let s = c in
-    exact (c.row_size-size.ensures.0
-    ∙ row_sized s.args.buffer.now s.args.self.used.0 s.args.id.0 (to_bits s.args.time.0) s.args.bits _ (c.zigzags-row.ensures ∙ ap zigzags_of c.deltas_of.ensures))
-
-admitted : (c : In-Open) →
-    let s = c in
-    Opened s.args.buffer.now s.args.self.tag s.args.self.used.0 ((sample_entry s.args.id.0 s.args.time.0 s.args.bits)) false
-unfolding entry_bytes
-admitted c = opened _ _ _ ((sample_entry c.args.id.0 c.args.time.0 c.args.bits)) false _ (λ h. exact (c.row_size-size.ensures.0
-    ∙ row_sized c.args.buffer.now c.args.self.used.0 c.args.id.0 (to_bits c.args.time.0) c.args.bits _ (c.zigzags-row.ensures ∙ ap zigzags_of c.deltas_of.ensures))) _ c.admit.ensures c.in-Open.is
+    let row = c.zigzags-row.ensures ∙ ap zigzags_of c.deltas_of.ensures in
+    let sized = sample_sized _ _ a.id.0 a.time.0 a.bits _ _ row c.row_size-size.ensures.0 in
+    admitted _ _ _ _ _ (Some c.row_size-size.result) sized _ c.admit.ensures c.in_ok-admit.was
 
 pub put_row-next-requires : goal.put_row-next-requires
 unfolding entry_bytes
-put_row-next-requires c = (zigzagged (goal.at.put_row-next-requires c).After-zigzags-row, (admitted (goal.at.put_row-next-requires c).In-Open).room)
+put_row-next-requires c =
+    (c.zigzags-row.ensures ∙ ap zigzags_of c.deltas_of.ensures, (opens (goal.at.put_row-next-requires c).In_ok-admit).room)
 
-pub returns-in-Open : goal.returns-in-Open
+pub returns : goal.returns
 unfolding entry_bytes
-returns-in-Open c = let both = finished _ _ _ ((sample_entry c.args.id.0 c.args.time.0 c.args.bits)) false _ _ (admitted (goal.at.returns-in-Open c).In-Open) (c.put_row-next.ensures.value, c.put_row-next.ensures.buffer_after) in record { answer = both.0; bytes = both.1 }
+returns c =
+    let both = finished _ _ _ _ _ _ _ (opens (goal.at.returns c).In_ok-admit) (c.put_row-next.ensures.value, c.put_row-next.ensures.buffer_after) in
+    record { answer = both.0; bytes = both.1 }
 
-pub returns-in-Shut : goal.returns-in-Shut
-returns-in-Shut c = let both = shut _ _ _ ((sample_entry c.args.id.0 c.args.time.0 c.args.bits)) false _ (sized (goal.at.returns-in-Shut c).After-row_size-size) _ c.admit.ensures c.in-Shut.is in record { answer = both.0; bytes = both.1 }
+pub returns-in_err-admit : goal.returns-in_err-admit
+returns-in_err-admit c =
+    let a = c.args in
+    let row = c.zigzags-row.ensures ∙ ap zigzags_of c.deltas_of.ensures in
+    let sized = sample_sized _ _ a.id.0 a.time.0 a.bits _ _ row c.row_size-size.ensures.0 in
+    let both = turned_away _ _ _ _ _ (Some c.row_size-size.result) sized _ c.admit.ensures c.in_err-admit.was _ c.from_residual.ensures.1 in
+    record { answer = both.0; bytes = both.1 }

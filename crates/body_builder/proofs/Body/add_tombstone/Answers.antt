@@ -1,32 +1,27 @@
 -- `Body::add_tombstone` meets its contract: the size, the gate, and then the puts.
-use native.Mathlib.Omega.{arith}
-use mathlib.Core.Path.{◌≡◌}
-use mathlib.Core.Bool.{false}
-use lib.ListN.{length}
+use Rattle.std.proofs.Common.{false}
+use Rattle.std.specs.Prelude.{Some}
 use Rattle.body_format.specs.Entries.{tombstone_entry}
-use Rattle.body_format.specs.Building.{entry_bytes}
-use Rattle.body_format.proofs.Laws.Strings.{length-tombstone}
-use Rattle.body_builder.specs.Laws.Additions.{Opened, opened, shut, finished, Sized, exact}
+use Rattle.body_builder.specs.Laws.Additions.{Opened, admitted, turned_away, finished}
+use Rattle.body_builder.proofs.Sizing.{tombstone_sized}
 use Rattle.body_builder.proofs.Body.add_tombstone.Goals as goal
-use Rattle.body_builder.proofs.Body.add_tombstone.Goals.{After-tombstone_size-size, In-Open}
+use Rattle.body_builder.proofs.Body.add_tombstone.Goals.{In_ok-admit}
 
-sized : (c : After-tombstone_size-size) →
-    let s = c in
-    false ≡ false → Sized c.tombstone_size-size.result (length (entry_bytes s.args.buffer.now s.args.self.used.0 ((tombstone_entry s.args.id.0 s.args.min.0 s.args.max.0))))
-sized c h =
-    let s = c in
-    exact (omega (arith, c.tombstone_size-size.ensures, length-tombstone s.args.buffer.now s.args.self.used.0 s.args.id.0 s.args.min.0 s.args.max.0))
-
-admitted : (c : In-Open) →
-    let s = c in
-    Opened s.args.buffer.now s.args.self.tag s.args.self.used.0 ((tombstone_entry s.args.id.0 s.args.min.0 s.args.max.0)) false
-admitted c = opened _ _ _ ((tombstone_entry c.args.id.0 c.args.min.0 c.args.max.0)) false _ (λ h. exact (omega (arith, c.tombstone_size-size.ensures, length-tombstone c.args.buffer.now c.args.self.used.0 c.args.id.0 c.args.min.0 c.args.max.0))) _ c.admit.ensures c.in-Open.is
+opens : (c : In_ok-admit) → let a = c.args in Opened a.buffer.now a.self.tag a.self.used.0 (tombstone_entry a.id.0 a.min.0 a.max.0) false
+opens c =
+    let sized = tombstone_sized _ _ _ _ _ _ c.tombstone_size-size.ensures in
+    admitted _ _ _ _ _ (Some c.tombstone_size-size.result) sized _ c.admit.ensures c.in_ok-admit.was
 
 pub put_tombstone-next-requires : goal.put_tombstone-next-requires
-put_tombstone-next-requires c = (admitted (goal.at.put_tombstone-next-requires c).In-Open).room
+put_tombstone-next-requires c = (opens (goal.at.put_tombstone-next-requires c).In_ok-admit).room
 
-pub returns-in-Open : goal.returns-in-Open
-returns-in-Open c = let both = finished _ _ _ ((tombstone_entry c.args.id.0 c.args.min.0 c.args.max.0)) false _ _ (admitted (goal.at.returns-in-Open c).In-Open) (c.put_tombstone-next.ensures.value, c.put_tombstone-next.ensures.buffer_after) in record { answer = both.0; bytes = both.1 }
+pub returns : goal.returns
+returns c =
+    let both = finished _ _ _ _ _ _ _ (opens (goal.at.returns c).In_ok-admit) (c.put_tombstone-next.ensures.value, c.put_tombstone-next.ensures.buffer_after) in
+    record { answer = both.0; bytes = both.1 }
 
-pub returns-in-Shut : goal.returns-in-Shut
-returns-in-Shut c = let both = shut _ _ _ ((tombstone_entry c.args.id.0 c.args.min.0 c.args.max.0)) false _ (sized (goal.at.returns-in-Shut c).After-tombstone_size-size) _ c.admit.ensures c.in-Shut.is in record { answer = both.0; bytes = both.1 }
+pub returns-in_err-admit : goal.returns-in_err-admit
+returns-in_err-admit c =
+    let sized = tombstone_sized _ _ _ _ _ _ c.tombstone_size-size.ensures in
+    let both = turned_away _ _ _ _ _ (Some c.tombstone_size-size.result) sized _ c.admit.ensures c.in_err-admit.was _ c.from_residual.ensures.1 in
+    record { answer = both.0; bytes = both.1 }

@@ -1,8 +1,6 @@
 -- `Body::start` meets its contract: its type, and then the buffer's room.
-use native.Mathlib.Omega.{arith}
-use Prim.Native.Nat.{ℕ}
-use mathlib.Core.Path.{◌≡◌, refl, sym, ◌∙◌}
-use mathlib.Core.Bool.{true, false}
+use Rattle.std.proofs.Common.{◌≡◌, ◌∙◌, ℕ, refl, sym, true, false, arith, eqb-true}
+use Rattle.std.proofs.lemmas.Bool.{eqb-false}
 use Rattle.body_format.specs.Entries.{BodyType, Known, known, unknown}
 use Rattle.body_format.proofs.Laws.Additions.{start_no_room, start-used, start-unknown}
 use Rattle.body_builder.specs.Sizes.{is_known}
@@ -19,12 +17,12 @@ none unknown h = refl
 pub returns-then-not-is_known : goal.returns-then-not-is_known
 returns-then-not-is_known c = let e = start-unknown c.args.buffer.now c.args.tag (none _ (sym c.is_known.ensures ∙ c.if-not-is_known.true)) in record { answer = rw e; bytes = rw e }
 
-pub returns-then-buffer-eq0 : goal.returns-then-buffer-eq0
-returns-then-buffer-eq0 c =
+pub returns-then-is_empty : goal.returns-then-is_empty
+returns-then-is_empty c =
     let k = some _ (sym c.is_known.ensures ∙ c.if-not-is_known.false) in
-    let e = start_no_room c.args.buffer.now c.args.tag k.0 k.1 c.if-buffer-eq0.true in record { answer = rw e; bytes = rw e }
+    let e = start_no_room c.args.buffer.now c.args.tag k.0 k.1 (eqb-true _ _ (sym c.is_empty.ensures ∙ c.if-is_empty.true)) in record { answer = rw e; bytes = rw e }
 
 pub returns : goal.returns
 returns c =
     let k = some _ (sym c.is_known.ensures ∙ c.if-not-is_known.false) in
-    let e = start-used c.args.buffer.now c.args.tag k.0 k.1 (omega arith) in record { answer = rw e; bytes = rw e }
+    let e = start-used c.args.buffer.now c.args.tag k.0 k.1 (let none = eqb-false _ _ (sym c.is_empty.ensures ∙ c.if-is_empty.false) in omega (arith, none)) in record { answer = rw e; bytes = rw e }

@@ -1,8 +1,5 @@
 -- `deltas_of` meets its contract: both are 0, or two differences modulo 2^64.
-use native.Mathlib.Omega.{arith}
-use borrow.Author.Tests.{eq-eqb, ne_eqb}
-use Prim.Native.Nat.{ℕ}
-use mathlib.Core.Path.{ap, ap₂, ◌∙◌}
+use Rattle.std.proofs.Common.{arith, eq-eqb, ne_eqb, ℕ, ap, ap₂, ◌∙◌}
 use Rattle.wal_types.specs.DeltaLaws.{to_from}
 use Rattle.wal_types.specs.Deltas.{to_bits, minus}
 use Rattle.body_builder.specs.declared.admission.Deltas.{Deltas}

@@ -1,8 +1,6 @@
 -- `put_short_deltas` meets its contract: two stores and a put.
-use native.Mathlib.Omega.{arith}
-use mathlib.Core.Path.{ap, ◌∙◌}
-use lib.ListN.{length, length-set}
-use lib.Seq.{length-sets}
+use Rattle.std.proofs.Common.{arith, ap, ◌∙◌, length, length-set}
+use Rattle.std.proofs.Math.Seq.{length-sets}
 use Rattle.body_builder.proofs.Sizing.{short-room, short-put}
 use Rattle.body_builder.proofs.builder.put_short_deltas.Goals as goal
 

@@ -1,8 +1,5 @@
 -- `put_tombstone` meets its contract: three puts in a row.
-use borrow.Author.Rules.{rules}
-use mir.Syntax.{w64}
-use mir.Val.{SFits}
-use mir.Facts.{to_z-of_z}
+use Rattle.std.proofs.Common.{rules, w64, SFits, to_z-of_z}
 use Rattle.varint.specs.Varint.{varint}
 use Rattle.big_endian.specs.Fixed.{be8}
 use Rattle.body_format.specs.Building.{entry_bytes}

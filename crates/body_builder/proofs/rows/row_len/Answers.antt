@@ -1,5 +1,5 @@
 -- `row_len` meets its contract: a row has as many bytes, whatever its value.
-use mathlib.Core.Path.{◌≡◌, ap, ◌∙◌}
+use Rattle.std.proofs.Common.{◌≡◌, ap, ◌∙◌}
 use Rattle.wal_types.specs.Deltas.{to_bits}
 use Rattle.body_builder.specs.Sizes.{deltas_in, zigzags_of}
 use Rattle.body_builder.proofs.Sizing.{row_sized}

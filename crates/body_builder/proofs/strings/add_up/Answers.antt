@@ -1,37 +1,20 @@
--- `add_up` meets its contract. The loop's invariant: what is left of the size is compared with the
--- sum of the lengths that are left.
-use native.Mathlib.Omega.{arith}
-use mathlib.Core.Path.{◌≡◌, refl, sym}
-use borrow.Author.Tests.{ne_eqb}
+-- `add_up` meets its contract: what is left is 0 exactly if the sum is the size.
+use Rattle.std.proofs.Common.{◌≡◌, sym, ne_eqb, arith}
 use Rattle.body_format.specs.Building.{total}
 use Rattle.body_format.proofs.Laws.Strings.{total-step}
 use Rattle.body_builder.proofs.Sizing.{total-end, sum_is}
 use Rattle.body_builder.proofs.strings.add_up.Goals as goal
 
-pub loop-i-init : goal.loop-i-init
-loop-i-init c = (refl, omega arith)
+pub returns-in_default : goal.returns-in_default
+returns-in_default c =
+    let step = total-step c.args.lengths.now c.loop-length.length-index (omega arith) in
+    sym (ne_eqb _ _ (λ (e : total c.args.lengths.now ≡ c.args.size). c.in_default.ensures (omega (arith, step))))
 
-pub returns-then-left-next : goal.returns-then-left-next
-returns-then-left-next c =
-    let a = c.args in
-    let l = c.loop-i in
-    let h = total-step a.lengths.now l.i (omega arith) in
-    sym (ne_eqb _ _ (λ (e : total a.lengths.now ≡ a.size). omega (arith, h)))
-
-pub overflow_add-i : goal.overflow_add-i
-overflow_add-i c = omega arith
-
-pub loop-i-smaller : goal.loop-i-smaller
-loop-i-smaller c = omega arith
-
-pub loop-i-preserved : goal.loop-i-preserved
-loop-i-preserved c =
-    let a = c.args in
-    let l = c.loop-i in
-    (omega (arith, total-step a.lengths.now l.i (omega arith)), omega arith)
+pub loop-length-preserved : goal.loop-length-preserved
+loop-length-preserved c =
+    omega (arith, total-step c.args.lengths.now c.loop-length.length-index (omega arith), c.in-Some.ensures.0, c.in-Some.ensures.1)
 
 pub returns : goal.returns
 returns c =
-    let a = c.args in
-    let l = c.loop-i in
-    sum_is l.left (total a.lengths.now) a.size (omega (arith, total-end a.lengths.now l.i (omega arith)))
+    sum_is c.loop-length.left (total c.args.lengths.now) c.args.size
+    (omega (arith, total-end c.args.lengths.now c.loop-length.length-index (omega arith)))

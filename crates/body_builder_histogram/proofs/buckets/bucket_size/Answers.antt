@@ -1,7 +1,5 @@
 -- `bucket_size` meets its contract, by the kind.
-use native.Mathlib.Omega.{arith}
-use mathlib.Core.Path.{sym, ap, ◌∙◌}
-use lib.ListN.{length}
+use Rattle.std.proofs.Common.{arith, sym, ap, ◌∙◌, length}
 use Rattle.big_endian.specs.FixedLaws.{length-be8}
 use Rattle.body_builder_histogram.proofs.Fields.{whole-bucket, float_bucket}
 use Rattle.body_builder_histogram.proofs.buckets.bucket_size.Goals as goal

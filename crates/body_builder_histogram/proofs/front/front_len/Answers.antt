@@ -1,6 +1,5 @@
 -- `front_len` meets its contract: the head, and the numbers.
-use native.Mathlib.Omega.{arith}
-use mathlib.Core.Path.{◌≡◌, ap, ◌∙◌}
+use Rattle.std.proofs.Common.{arith, ◌≡◌, ap, ◌∙◌}
 use Rattle.wal_types.specs.Deltas.{to_bits}
 use Rattle.body_builder.specs.Sizes.{deltas_in, zigzags_of}
 use Rattle.body_builder_histogram.proofs.Fields.{head-sized}

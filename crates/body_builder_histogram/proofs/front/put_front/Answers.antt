@@ -1,15 +1,12 @@
 -- `put_front` meets its contract: there is room for the head and the numbers, or nothing changes.
-use native.Mathlib.Omega.{arith}
-use Prim.Native.Nat.{◌+◌, ◌≤◌}
-use mathlib.Core.Path.{◌≡◌, sym, ap, ◌∙◌}
-use lib.ListN.{length}
+use Rattle.std.proofs.Common.{arith, ◌+◌, ◌≤◌, ◌<◌, ◌≡◌, sym, ap, ◌∙◌, length}
 use Rattle.wal_types.specs.Deltas.{to_bits}
 use Rattle.byte_copy.specs.PutLaws.{put_not, end_not}
 use Rattle.body_builder.specs.Sizes.{deltas_in, zigzags_of}
 use Rattle.body_builder_histogram.specs.Front.{front_bytes}
 use Rattle.body_builder_histogram.proofs.Parts.{front-head-room, front-numbers-room, front-laid}
 use Rattle.body_builder_histogram.proofs.front.put_front.Goals as goal
-use Rattle.body_builder_histogram.proofs.front.put_front.Goals.{After-zigzags-row}
+use Rattle.body_builder_histogram.proofs.front.put_front.Goals.{then-buffer-at-via-then-buffer-at, then-buffer-at-via-else-buffer-at+then-buffer-at-2, After-zigzags-row}
 
 -- the zigzags of the row's deltas
 zigzagged : (c : After-zigzags-row) →
@@ -19,13 +16,14 @@ zigzagged c = c.zigzags-row.ensures ∙ ap zigzags_of c.deltas_of.ensures
 
 pub returns-then-buffer-at : goal.returns-then-buffer-at
 returns-then-buffer-at c =
-    let h = c.if-buffer-at.true in
-    record { value = sym (end_not _ _ _ (omega arith)); buffer_after = sym (put_not _ _ _ (omega arith)) }
-
-pub returns-then-buffer-at-2 : goal.returns-then-buffer-at-2
-returns-then-buffer-at-2 c =
+    let a = c.args in
     let n = c.front_len-size.ensures.0 in
-    record { value = sym (end_not _ _ _ (omega (arith, n))); buffer_after = sym (put_not _ _ _ (omega (arith, n))) }
+    let out : length a.buffer.now < a.at + length (front_bytes a.buffer.now a.at a.kind a.id.0 (to_bits a.time.0) a.numbers) =
+    elim c.then-buffer-at.branch [
+      | then-buffer-at-via-then-buffer-at w ↦ omega arith
+      | then-buffer-at-via-else-buffer-at+then-buffer-at-2 w ↦ omega (arith, n)
+    ] in
+    record { value = sym (end_not _ _ _ out); buffer_after = sym (put_not _ _ _ out) }
 
 pub put_head-second-requires : goal.put_head-second-requires
 put_head-second-requires c =

@@ -1,7 +1,5 @@
 -- `count_size` meets its contract, by the kind.
-use native.Mathlib.Omega.{arith}
-use mathlib.Core.Path.{sym, ap, ◌∙◌}
-use lib.ListN.{length}
+use Rattle.std.proofs.Common.{arith, sym, ap, ◌∙◌, length}
 use Rattle.big_endian.specs.FixedLaws.{length-be8}
 use Rattle.body_builder_histogram.proofs.Fields.{whole-count, float_count}
 use Rattle.body_builder_histogram.proofs.front_numbers.count_size.Goals as goal

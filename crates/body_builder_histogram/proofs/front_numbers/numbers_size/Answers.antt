@@ -1,10 +1,6 @@
 -- `numbers_size` meets its contract: 17 bytes, and three fields.
-use borrow.Author.Rules.{rules, sfits_of}
-use native.Mathlib.Omega.{arith}
-use mathlib.Core.Path.{◌∙◌}
-use mir.Facts.{to_z-of_z}
-use mir.Val.{SFits}
-use mir.Syntax.{w32, w64}
+use Rattle.std.proofs.Common.{rules, arith, ◌∙◌, to_z-of_z, SFits, w32, w64}
+use borrow.Author.Rules.{sfits_of}
 use Rattle.body_builder_histogram.proofs.Fields.{length-numbers}
 use Rattle.body_builder_histogram.proofs.front_numbers.numbers_size.Goals as goal
 
@@ -12,7 +8,7 @@ pub returns : goal.returns
 returns c =
     let a = c.args in
     let fits : SFits w32 c.args.numbers.schema = search rules in
-    let x = to_z-of_z {w = w64} (sfits_of c.wide.type_inv) ∙ c.wide.ensures ∙ to_z-of_z {w = w32} {z = a.numbers.schema} fits in
+    let x = to_z-of_z {w = w64} (sfits_of c.from.type_inv) ∙ c.from.ensures ∙ to_z-of_z {w = w32} {z = a.numbers.schema} fits in
     let v = rw x at c.varint_len-schema.ensures in
     let z = c.count_size-zeros.ensures in
     let n = c.count_size-count.ensures in

@@ -1,12 +1,7 @@
 -- `put_numbers` meets its contract: a byte, and five puts in a row.
-use borrow.Author.Rules.{rules, sfits_of}
-use native.Mathlib.Omega.{arith}
-use mathlib.Core.Path.{◌∙◌, ap}
-use lib.ListN.{length}
-use lib.Seq.{length-sets}
-use mir.Facts.{to_z-of_z}
-use mir.Val.{SFits}
-use mir.Syntax.{w32, w64}
+use Rattle.std.proofs.Common.{rules, arith, ◌∙◌, ap, length, to_z-of_z, SFits, w32, w64}
+use borrow.Author.Rules.{sfits_of}
+use Rattle.std.proofs.Math.Seq.{length-sets}
 use Rattle.body_format.specs.Histograms.{numbers_bytes}
 use Rattle.body_builder_histogram.proofs.Fields.{hint-room, numbers-laid}
 use Rattle.body_builder_histogram.proofs.front_numbers.put_numbers.Goals as goal
@@ -21,7 +16,7 @@ pub shape_of-buffer : goal.shape_of-buffer
 shape_of-buffer c =
     let s = c in
     let fits : SFits w32 c.args.numbers.schema = search rules in
-    let x = to_z-of_z {w = w64} (sfits_of c.wide.type_inv) ∙ c.wide.ensures ∙ to_z-of_z {w = w32} {z = c.args.numbers.schema} fits in
+    let x = to_z-of_z {w = w64} (sfits_of c.from.type_inv) ∙ c.from.ensures ∙ to_z-of_z {w = w32} {z = c.args.numbers.schema} fits in
     let v = rw x at c.put_varint-threshold.ensures in
     let w = c.put_be8-zeros.ensures in
     let z = c.put_count-count.ensures in
@@ -35,7 +30,7 @@ pub returns : goal.returns
 returns c =
     let s = c in
     let fits : SFits w32 c.args.numbers.schema = search rules in
-    let x = to_z-of_z {w = w64} (sfits_of c.wide.type_inv) ∙ c.wide.ensures ∙ to_z-of_z {w = w32} {z = c.args.numbers.schema} fits in
+    let x = to_z-of_z {w = w64} (sfits_of c.from.type_inv) ∙ c.from.ensures ∙ to_z-of_z {w = w32} {z = c.args.numbers.schema} fits in
     let v = rw x at c.put_varint-threshold.ensures in
     let w = c.put_be8-zeros.ensures in
     let z = c.put_count-count.ensures in

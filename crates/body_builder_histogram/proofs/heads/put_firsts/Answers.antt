@@ -1,6 +1,5 @@
 -- `put_firsts` meets its contract: nothing, or two puts in a row.
-use native.Mathlib.Omega.{arith}
-use mathlib.Core.Path.{refl}
+use Rattle.std.proofs.Common.{arith, refl}
 use Rattle.wal_types.specs.Deltas.{to_bits}
 use Rattle.big_endian.specs.Fixed.{be8}
 use Rattle.body_builder_histogram.proofs.Fields.{firsts-first, firsts-none, put_two}

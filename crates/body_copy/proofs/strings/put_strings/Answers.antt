@@ -1,23 +1,28 @@
--- `put_strings` meets its contract. The loop's invariant, `Laying`: once the strings that are left
--- are written, the slice is as it is to be.
-use native.Mathlib.Omega.{arith}
-use mathlib.Core.Path.{◌≡◌, refl}
-use Rattle.body_copy.proofs.Copying.{string-room, string-laid, strings-laid}
+-- `put_strings` meets its contract, by the laws of `Laying`.
+use Rattle.std.proofs.Common.{◌≡◌, ◌+◌, ◌-◌, refl, arith}
+use Rattle.body_copy.proofs.Copying.{string-room, string-more, strings-unread, strings-laid}
 use Rattle.body_copy.proofs.strings.put_strings.Goals as goal
 
-pub loop-left-init : goal.loop-left-init
-loop-left-init c = record { size = refl; end = refl; same = refl }
+pub loop-init : goal.loop-init
+loop-init c =
+    let all : c.args.count - 0 ≡ c.args.count = omega arith in
+    record { size = refl; end = rw all refl; same = rw all refl }
 
-pub put_string-copied-requires : goal.put_string-copied-requires
-put_string-copied-requires c = string-room _ _ _ _ _ _ _ _ _ c.loop-left.invariant c.loop-left-test.true c.requires
+pub put_string-requires : goal.put_string-requires
+put_string-requires c = string-room _ _ _ _ _ _ _ _ _ c.loop.invariant (omega arith) c.requires
 
-pub loop-left-preserved : goal.loop-left-preserved
-loop-left-preserved c = string-laid _ _ _ _ _ _ _ _ _ c.loop-left.invariant c.loop-left-test.true _ _ _ c.put_string-copied.ensures
+pub returns-in_default : goal.returns-in_default
+returns-in_default c = strings-unread _ _ _ _ _ _ _ _ _ c.loop.invariant _ c.in_default.ensures
+
+pub loop-preserved : goal.loop-preserved
+loop-preserved c =
+    let one : c.args.count - (c.loop.counter + 1) ≡ c.args.count - c.loop.counter - 1 = omega arith in
+    rw one (string-more _ _ _ _ _ _ _ _ _ c.loop.invariant (omega arith) _ _ _ c.in-Some.ensures)
 
 pub shape_of-buffer : goal.shape_of-buffer
-shape_of-buffer c = c.loop-left.invariant.size
+shape_of-buffer c = c.loop.invariant.size
 
 pub returns : goal.returns
 returns c =
-    let z : c.loop-left.left ≡ 0 = omega arith in
-    strings-laid _ _ _ _ _ _ _ _ (rw z at c.loop-left.invariant)
+    let none : c.args.count - c.loop.counter ≡ 0 = omega arith in
+    strings-laid _ _ _ _ _ _ _ _ (rw none at c.loop.invariant)

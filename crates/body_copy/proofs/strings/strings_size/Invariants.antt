@@ -1,10 +1,8 @@
--- `strings_size` meets its contract. The loop's invariant, `Sizing`: the bytes so far and those of the
--- strings that are left make the whole.
+-- `strings_size` meets its contract. The loop's invariant, `Sizing`: the bytes so far and those of
+-- the strings that are left make the whole.
+use Rattle.std.proofs.Common.{◌-◌}
 use Rattle.body_copy.proofs.Measuring.{Sizing}
 use Rattle.body_copy.proofs.strings.strings_size.Given as goal
 
-abbrev pub invariant-loop-left : goal.invariant-loop-left
-invariant-loop-left l = Sizing l.from l.first l.count l.at l.total l.left
-
-abbrev pub decreases-loop-left : goal.decreases-loop-left
-decreases-loop-left l = l.left
+abbrev pub invariant-loop : goal.invariant-loop
+invariant-loop l = Sizing l.from l.first l.count l.at l.total (l.count - l.counter)

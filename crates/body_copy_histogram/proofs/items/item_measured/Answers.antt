@@ -1,9 +1,31 @@
--- `item_measured` meets its contract, by the element.
-use Rattle.body_copy_histogram.proofs.Elements.{measured_as}
+-- `item_measured` meets its contract: the element is there, or not.
+use Rattle.std.proofs.Common.{◌∙◌, sym, ap, arith, rules, SFits, w32, to_z-of_z}
+use Rattle.body_format.specs.declared.Element.TheVariants as element
+use Rattle.body_format.specs.Histograms.{span_at, bucket_at}
+use Rattle.body_copy_histogram.specs.Forms.{measured_of}
+use Rattle.body_copy_histogram.proofs.Elements.{span-read, span-unread, bucket-read, bucket-unread, measured_got, measured_as}
 use Rattle.body_copy_histogram.proofs.items.item_measured.Goals as goal
 
-pub returns-in-Span : goal.returns-in-Span
-returns-in-Span c = measured_as _ _ _ _ c.in-Span.is c.span_measured.ensures
+pub returns-in_ok-offset-in-Span : goal.returns-in_ok-offset-in-Span
+returns-in_ok-offset-in-Span c =
+    let fits : SFits w32 c.in_ok-offset-in-Span.offset = search rules in
+    let e = span-read (span_at c.args.from.now c.args.at) _ c.span_at.ensures (sym c.ok.ensures.value ∙ c.in_ok-offset-in-Span.was) in
+    let n = rw (to_z-of_z {w = w32} fits) at c.span_size.ensures in
+    (measured_as _ _ _ _ c.in-Span.is (measured_got element.Span _ _ _ _ e n.0), n.1)
 
-pub returns-in-Bucket : goal.returns-in-Bucket
-returns-in-Bucket c = measured_as _ _ _ _ c.in-Bucket.is c.bucket_measured.ensures
+pub returns-in_ok-bits-in-Bucket : goal.returns-in_ok-bits-in-Bucket
+returns-in_ok-bits-in-Bucket c =
+    let e = bucket-read (bucket_at c.in-Bucket.kind c.args.from.now c.args.at) _ c.bucket_at.ensures (sym c.ok-in-Bucket.ensures.value ∙ c.in_ok-bits-in-Bucket.was) in
+    let n = c.bucket_size.ensures in
+    (measured_as _ _ _ _ c.in-Bucket.is (measured_got (element.Bucket c.in-Bucket.kind) _ _ _ _ e n.0), omega (arith, n.1))
+
+pub returns-in_err-offset-in-Span : goal.returns-in_err-offset-in-Span
+returns-in_err-offset-in-Span c =
+    let f = span-unread _ (rw c.span_at.ensures at (sym c.ok.ensures.value ∙ c.in_err-offset-in-Span.was)) in
+    rw c.from_residual.ensures (measured_as _ _ _ _ c.in-Span.is (sym (ap (measured_of element.Span) f.1)), tt)
+
+pub returns-in_err-bits-in-Bucket : goal.returns-in_err-bits-in-Bucket
+returns-in_err-bits-in-Bucket c =
+    let f = bucket-unread _ (rw c.bucket_at.ensures at (sym c.ok-in-Bucket.ensures.value ∙ c.in_err-bits-in-Bucket.was)) in
+    rw c.from_residual-in_err-bits-in-Bucket.ensures
+    (measured_as _ _ _ _ c.in-Bucket.is (sym (ap (measured_of (element.Bucket c.in-Bucket.kind)) f.1)), tt)

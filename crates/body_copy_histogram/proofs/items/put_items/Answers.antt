@@ -1,20 +1,26 @@
--- `put_items` meets its contract. The loop's invariant, `Laying`: once the elements that are left are
--- written, the slice is as it is to be.
-use native.Mathlib.Omega.{arith}
-use mathlib.Core.Path.{◌≡◌, refl}
-use Rattle.body_copy_histogram.proofs.Elements.{item_laid, items-laid}
+-- `put_items` meets its contract, by the laws of `Laying`.
+use Rattle.std.proofs.Common.{◌≡◌, ◌+◌, ◌-◌, refl, arith}
+use Rattle.body_copy_histogram.proofs.Elements.{copied-told, item_laid, items-unread, items-laid}
 use Rattle.body_copy_histogram.proofs.items.put_items.Goals as goal
 
-pub loop-left-init : goal.loop-left-init
-loop-left-init c = record { size = refl; end = refl; same = refl }
+pub loop-init : goal.loop-init
+loop-init c =
+    let all : c.args.count - 0 ≡ c.args.count = omega arith in
+    record { size = refl; end = rw all refl; same = rw all refl }
 
-pub loop-left-preserved : goal.loop-left-preserved
-loop-left-preserved c = item_laid _ _ _ _ _ _ _ _ _ _ c.loop-left.invariant c.loop-left-test.true c.requires _ _ _ c.copy_item-copied.ensures
+pub returns-in_default : goal.returns-in_default
+returns-in_default c = items-unread _ _ _ _ _ _ _ _ _ _ c.loop.invariant _ c.in_default.ensures
+
+pub loop-preserved : goal.loop-preserved
+loop-preserved c =
+    let one : c.args.count - (c.loop.counter + 1) ≡ c.args.count - c.loop.counter - 1 = omega arith in
+    let t = copied-told _ _ _ _ _ _ c.in-Some.ensures.0 in
+    rw one (item_laid _ _ _ _ _ _ _ _ _ _ c.loop.invariant (omega arith) c.requires _ _ _ (t.1 c.loop.from_place, t.0, c.in-Some.ensures.1))
 
 pub shape_of-buffer : goal.shape_of-buffer
-shape_of-buffer c = c.loop-left.invariant.size
+shape_of-buffer c = c.loop.invariant.size
 
 pub returns : goal.returns
 returns c =
-    let z : c.loop-left.left ≡ 0 = omega arith in
-    items-laid _ _ _ _ _ _ _ _ _ (rw z at c.loop-left.invariant)
+    let none : c.args.count - c.loop.counter ≡ 0 = omega arith in
+    items-laid _ _ _ _ _ _ _ _ _ (rw none at c.loop.invariant)

@@ -1,5 +1,5 @@
 -- `count_at` meets its contract: by the bucket kind.
-use mathlib.Core.Path.{◌∙◌}
+use Rattle.std.proofs.Common.{◌∙◌}
 use Rattle.body_histogram.proofs.Decoding.{count-whole, count_float}
 use Rattle.body_histogram.proofs.fields.count_at.Goals as goal
 

@@ -1,5 +1,5 @@
 -- `item_end` meets its contract: a span, or a bucket.
-use mathlib.Core.Path.{◌∙◌}
+use Rattle.std.proofs.Common.{◌∙◌}
 use Rattle.body_histogram.proofs.Walking.{item_end-span, item_end-bucket}
 use Rattle.body_histogram.proofs.lists.item_end.Goals as goal
 

@@ -1,24 +1,26 @@
 -- `items_end` meets its contract: the loop's invariant is that the
 -- elements that are left end where all of them do.
-use native.Mathlib.Omega.{arith}
-use mathlib.Core.Path.{◌≡◌, ◌∙◌, subst}
-use Rattle.body_histogram.proofs.Walking.{Turned, turn, turned-all}
+use Rattle.std.specs.Prelude.{◌≡◌, ◌+◌, ◌-◌}
+use Rattle.std.proofs.Common.{sym, ◌∙◌, arith}
+use Rattle.wal_types.proofs.Passing.{passed_on}
+use Rattle.body_fields.specs.Results.Place.{At, Fault}
+use Rattle.body_histogram.proofs.Walking.{turn, turned-all}
 use Rattle.body_histogram.proofs.lists.items_end.Goals as goal
-use Rattle.body_histogram.proofs.lists.items_end.Goals.{After-item_end}
 
--- one element more, or its fault
-turned : (c : After-item_end) →
-    let a = c.args in
-    Turned a.element a.body.now a.first a.count c.loop-left.left c.item_end.result
-turned c = turn _ _ _ _ _ _ c.loop-left.invariant c.loop-left-test.true _ c.item_end.ensures
+pub loop-init : goal.loop-init
+loop-init c = let all : c.args.count - 0 ≡ c.args.count = omega arith in rw all
 
-pub returns-in-Fault : goal.returns-in-Fault
-returns-in-Fault c = subst (Turned _ _ _ _ _) c.in-Fault.is (turned (goal.at.returns-in-Fault c).After-item_end)
+pub returns-in_err-at : goal.returns-in_err-at
+returns-in_err-at c =
+    passed_on c.from_residual.result _ c.from_residual.ensures.1
+    ∙ turn _ _ _ _ _ _ c.loop.invariant (omega arith) (Fault c.in_err-at.field-0.0) (sym c.in_err-at.was ∙ c.item_end.ensures)
 
-pub loop-left-preserved : goal.loop-left-preserved
-loop-left-preserved c = subst (Turned _ _ _ _ _) c.in-At.is (turned (goal.at.loop-left-preserved c).After-item_end)
+pub loop-preserved : goal.loop-preserved
+loop-preserved c =
+    let one : c.args.count - (c.loop.counter + 1) ≡ c.args.count - c.loop.counter - 1 = omega arith in
+    rw one (turn _ _ _ _ _ _ c.loop.invariant (omega arith) (At c.in_ok-at.at) (sym c.in_ok-at.was ∙ c.item_end.ensures))
 
 pub returns : goal.returns
 returns c =
-    let z : c.loop-left.left ≡ 0 = omega arith in
-    turned-all _ _ _ ∙ (rw z at c.loop-left.invariant)
+    let none : c.args.count - c.loop.counter ≡ 0 = omega arith in
+    turned-all _ _ _ ∙ (rw none at c.loop.invariant)

@@ -1,20 +1,21 @@
 -- `lists_at` meets its contract: spans, and then buckets.
+use Rattle.std.proofs.Common.{◌∙◌}
+use Rattle.wal_types.proofs.Passing.{passed_on}
 use Rattle.body_histogram.proofs.Walking.{sides-got, sides-fault, lists_1, lists_2, lists-all}
 use Rattle.body_histogram.proofs.lists.lists_at.Goals as goal
 
-pub returns-in-Got-sides_at : goal.returns-in-Got-sides_at
-returns-in-Got-sides_at c =
-    let second = c in
-    let first = second in
-    lists-all _ _ _ (sides-got _ _ first.sides_at.ensures second.in-Got.is)
-    (sides-got _ _ second.sides_at-in-Got.ensures c.in-Got-sides_at.is)
+pub returns : goal.returns
+returns c =
+    lists-all _ _ _ (sides-got _ _ c.sides_at.ensures c.in_ok-spans.was)
+    (sides-got _ _ c.sides_at-2.ensures c.in_ok-buckets.was)
 
-pub returns-in-Fault-sides_at : goal.returns-in-Fault-sides_at
-returns-in-Fault-sides_at c =
-    let second = c in
-    let first = second in
-    lists_2 _ _ _ (sides-got _ _ first.sides_at.ensures second.in-Got.is)
-    (sides-fault _ _ second.sides_at-in-Got.ensures c.in-Fault-sides_at.is)
+pub returns-in_err-buckets : goal.returns-in_err-buckets
+returns-in_err-buckets c =
+    passed_on c.from_residual-in_err-buckets.result _ c.from_residual-in_err-buckets.ensures.1
+    ∙ lists_2 _ _ _ (sides-got _ _ c.sides_at.ensures c.in_ok-spans.was)
+    (sides-fault _ _ c.sides_at-2.ensures c.in_err-buckets.was)
 
-pub returns-in-Fault : goal.returns-in-Fault
-returns-in-Fault c = lists_1 _ _ _ (sides-fault _ _ c.sides_at.ensures c.in-Fault.is)
+pub returns-in_err-spans : goal.returns-in_err-spans
+returns-in_err-spans c =
+    passed_on c.from_residual.result _ c.from_residual.ensures.1
+    ∙ lists_1 _ _ _ (sides-fault _ _ c.sides_at.ensures c.in_err-spans.was)

@@ -1,6 +1,5 @@
 -- `high_type` meets its contract, by the byte.
-use native.Mathlib.Omega.{arith}
-use mathlib.Core.Path.{sym, ap}
+use Rattle.std.proofs.Common.{sym, ap, arith}
 use Rattle.body_format.specs.Entries.{body_type_of}
 use Rattle.body_format.proofs.Laws.Types.{type_unknown}
 use Rattle.body_reader.specs.Layouts.{type_found}

@@ -1,6 +1,5 @@
 -- `type_of` meets its contract: 2, below 2, or from 3 on.
-use native.Mathlib.Omega.{arith}
-use mathlib.Core.Path.{◌≡◌, sym, ap}
+use Rattle.std.proofs.Common.{◌≡◌, sym, ap, arith}
 use Rattle.body_format.specs.Entries.{body_type_of}
 use Rattle.body_format.proofs.Laws.Types.{type_unknown}
 use Rattle.body_reader.specs.Layouts.{type_found}

@@ -1,10 +1,5 @@
 -- `depot_wal_read` meets its contract: without a table the checksum is the version's.
-use borrow.Author.Rules.{rules}
-use mathlib.Core.Path.{◌≡◌, ap, ◌∙◌}
-use mathlib.Core.List.{[], ◌∷◌}
-use Prim.Native.Nat.{ℕ, ◌<◌}
-use native.Mathlib.Omega.{arith}
-use lib.ListN.{length}
+use Rattle.std.proofs.Common.{◌≡◌, ap, ◌∙◌, [], ◌∷◌, ℕ, ◌<◌, arith, length}
 use Rattle.wal_types.specs.Versions.{version_of}
 use Rattle.segment_format.specs.Sums.{version_sum, table_sum}
 use Rattle.segment_format.specs.Good.{GoodReader}

@@ -1,5 +1,5 @@
 -- `shown_at` meets its contract: a row is its five numbers.
-use native.Mathlib.Omega.{arith}
+use Rattle.std.proofs.Common.{arith}
 use Rattle.report_format.proofs.Laws.Rows.{line_read}
 use Rattle.reporting.proofs.lines.shown_at.Goals as goal
 

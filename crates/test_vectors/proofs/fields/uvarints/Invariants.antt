@@ -2,5 +2,5 @@
 use Rattle.std.proofs.Common.{◌^◌, ◌≤◌}
 use Rattle.test_vectors.proofs.fields.uvarints.Given as goal
 
-abbrev pub invariant-loop-k : goal.invariant-loop-k
-invariant-loop-k g l = (1 ≤ l.power) × (l.power ≤ 2 ^ 63)
+abbrev pub invariant-loop : goal.invariant-loop
+invariant-loop g l = (1 ≤ l.power) × (l.power ≤ 2 ^ 63)

@@ -1,0 +1,7 @@
+-- What the calls answer, in the words of the definitions: an `Ok`, a `Some` or an `Err` by the name
+-- that the format has for it.
+pub mod NumberRead
+pub mod SignedRead
+pub mod Place
+pub mod StringRead
+pub mod StringListRead

@@ -1,0 +1,8 @@
+-- What the calls answer, in the words of the definitions: an `Ok`, a `Some` or an `Err` by the name
+-- that the format has for it.
+pub mod NumbersRead
+pub mod HistogramRead
+pub mod Int32Read
+pub mod ListRead
+pub mod SidesRead
+pub mod ListsRead
