@@ -43,7 +43,7 @@ fn series_at(body: &[u8], at: usize) -> Result<Option<EntryView>, Refusal>
 fn series_end(body: &[u8], at: usize) -> Result<usize, Refusal>
     ensures { result ≡ end_of (series_at body.now at) }
 {
-    let labels = fixed_end(body, at)?;
+    let labels = fixed_end(body, Ok(at));
     list_end(body, labels)
 }
 
@@ -70,8 +70,8 @@ fn tombstone_at(body: &[u8], at: usize) -> Result<Option<EntryView>, Refusal>
 fn tombstone_end(body: &[u8], at: usize) -> Result<usize, Refusal>
     ensures { result ≡ end_of (tombstone_at body.now at) }
 {
-    let second = fixed_end(body, at)?;
-    let third = varint_end(body, second)?;
+    let second = fixed_end(body, Ok(at));
+    let third = varint_end(body, second);
     varint_end(body, third)
 }
 
@@ -98,8 +98,8 @@ fn metadata_at(body: &[u8], at: usize) -> Result<Option<EntryView>, Refusal>
 fn metadata_end(body: &[u8], at: usize) -> Result<usize, Refusal>
     ensures { result ≡ end_of (metadata_at body.now at) }
 {
-    let second = uvarint_end(body, at)?;
-    let third = byte_end(body, second)?;
+    let second = uvarint_end(body, Ok(at));
+    let third = byte_end(body, second);
     list_end(body, third)
 }
 

@@ -118,8 +118,8 @@ fn long_row_at(
 fn long_row_end(body: &[u8], at: usize) -> Result<usize, Refusal>
     ensures { result ≡ end_of (row_at body.now at) }
 {
-    let second = uvarint_end(body, at)?;
-    let third = uvarint_end(body, second)?;
+    let second = uvarint_end(body, Ok(at));
+    let third = uvarint_end(body, second);
     fixed_end(body, third)
 }
 
@@ -227,7 +227,7 @@ pub fn row_entry_end(body: &[u8], labelled: bool, at: usize) -> Result<usize, Re
 {
     let labels = row_end(body, at)?;
     if labelled {
-        list_end(body, labels)
+        list_end(body, Ok(labels))
     } else {
         Ok(labels)
     }
