@@ -45,7 +45,7 @@ impl Body {
 
     // One series more: its id, and its labels as pairs of strings.
     pub fn add_series(
-        self,
+        mut self,
         buffer: &mut [u8],
         id: SeriesId,
         strings: &[u8],
@@ -61,15 +61,13 @@ impl Body {
         let size = entry_size(8, strings, lengths);
         admit(buffer, self.tag, at, SERIES, size)?;
         let next = put_series(buffer, at, id, strings, lengths);
-        Ok(Body {
-            used: Offset(next),
-            ..self
-        })
+        self.used = Offset(next);
+        Ok(self)
     }
 
     // One sample more.
     pub fn add_sample(
-        self,
+        mut self,
         buffer: &mut [u8],
         id: SeriesId,
         time: Timestamp,
@@ -85,15 +83,13 @@ impl Body {
         let size = row_size(at, row);
         admit(buffer, self.tag, at, SAMPLES, Some(size))?;
         let next = put_row(buffer, at, id, time, row, bits);
-        Ok(Body {
-            used: Offset(next),
-            ..self
-        })
+        self.used = Offset(next);
+        Ok(self)
     }
 
     // One tombstone more.
     pub fn add_tombstone(
-        self,
+        mut self,
         buffer: &mut [u8],
         id: SeriesId,
         min: Timestamp,
@@ -109,15 +105,13 @@ impl Body {
         let size = tombstone_size(min, max);
         admit(buffer, self.tag, at, TOMBSTONES, Some(size))?;
         let next = put_tombstone(buffer, at, id, min, max);
-        Ok(Body {
-            used: Offset(next),
-            ..self
-        })
+        self.used = Offset(next);
+        Ok(self)
     }
 
     // One exemplar more: a row, and its labels.
     pub fn add_exemplar(
-        self,
+        mut self,
         buffer: &mut [u8],
         id: SeriesId,
         time: Timestamp,
@@ -137,15 +131,13 @@ impl Body {
         admit(buffer, self.tag, at, EXEMPLARS, size)?;
         let labels = put_row(buffer, at, id, time, row, bits);
         let next = put_list(buffer, labels, strings, lengths);
-        Ok(Body {
-            used: Offset(next),
-            ..self
-        })
+        self.used = Offset(next);
+        Ok(self)
     }
 
     // One metadata entry more: its id, its metric type, and its name and text strings.
     pub fn add_metadata(
-        self,
+        mut self,
         buffer: &mut [u8],
         id: SeriesId,
         metric_type: u8,
@@ -163,9 +155,7 @@ impl Body {
         let size = entry_size(head, strings, lengths);
         admit(buffer, self.tag, at, METADATA, size)?;
         let next = put_metadata(buffer, at, id, metric_type, strings, lengths);
-        Ok(Body {
-            used: Offset(next),
-            ..self
-        })
+        self.used = Offset(next);
+        Ok(self)
     }
 }
