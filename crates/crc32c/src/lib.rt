@@ -344,7 +344,7 @@ fn table_byte(t: &[u32], state: u32, b: u8) -> u32
     requires { 2048 ≤ length t.now }
     ensures { result ≡ table_step1 t.now state (b ∷ []) }
 {
-    let x = state ^ u32::from(b);
+    let x = state ^ numbers::wide32(b);
     let i = (x % 256) as usize;
     t[i] ^ (x / 256)
 }

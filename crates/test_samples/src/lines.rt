@@ -14,17 +14,14 @@ pub(crate) fn answered<W: Write>(
     text(out, b"fill")?;
     field(out, length as u64)?;
     text(out, b" ->")?;
-    match answer {
-        Ok(count) => {
-            text(out, b" filled")?;
-            field(out, count as u64)?;
-        }
-        Err(why) => {
-            text(out, b" refused")?;
-            field(out, u64::from(wal_types::number(why)))?;
-            field(out, wal_types::place(why).0 as u64)?;
-        }
+    let refusal = body_samples::fill_number(answer);
+    if refusal == 0 {
+        text(out, b" filled")?;
+    } else {
+        text(out, b" refused")?;
+        field(out, u64::from(refusal))?;
     }
+    field(out, body_samples::fill_value(answer) as u64)?;
     text(out, b"\n")
 }
 

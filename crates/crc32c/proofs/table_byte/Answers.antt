@@ -4,4 +4,4 @@ use Rattle.crc32c.proofs.table_byte.Goals as goal
 
 pub returns : goal.returns
 unfolding table_step1
-returns c = cc c.from.ensures
+returns c = cc c.wide32.ensures.0
