@@ -1,5 +1,5 @@
--- The types of a body in the forms that the private functions return.
--- Assumes nothing.
+-- The types of a body in the forms that the code returns.
+-- To be believed. Assumes nothing.
 use Rattle.std.specs.Prelude.{true, false, List, [], ◌∷◌, ℕ}
 use Rattle.wal_types.specs.declared.Refusal.TheVariants.{UnknownType, EmptyBody}
 use Rattle.body_format.specs.Entries.{BodyType, series, samples, tombstones, exemplars, metadata, histograms}

@@ -4,12 +4,17 @@
 use Rattle.std.specs.Prelude.{cond, List, [], ◌∷◌, ◌++◌, map, ℕ, length, drop, leb}
 use Rattle.wal_types.specs.declared.Refusal.TheVariants.{UnknownType, EmptyBody, ListFull, WrongKind}
 use Rattle.wal_types.specs.Refusals.{number_of, place_of}
+use Rattle.body_format.specs.declared.EntryView.{EntryView}
 use Rattle.body_format.specs.Fields.{Field, got, fault}
 use Rattle.body_format.specs.Entries.{Known, known, unknown, body_type_of, series, samples, tombstones, exemplars, metadata, histograms, Entry, entries}
 use Rattle.body_format.specs.Reading.{view}
 use Rattle.body_samples.specs.declared.Sample.{Sample}
 use Rattle.body_samples.specs.Results.FillAnswer.{FillAnswer}
 use Rattle.body_samples.specs.Results.FillAnswer.{Filled, Refused}
+
+-- what the list holds of an entry that was read
+abbrev pub sample_seen : EntryView → Sample
+sample_seen v = record { id = v.id; time = v.time; bits = v.bits }
 
 -- an entry's id, time and value, as reading the entry reports them
 abbrev pub sample_of : Entry → Sample

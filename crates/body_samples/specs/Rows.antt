@@ -22,16 +22,12 @@ use Rattle.body_format.specs.Calls.Walks.{next, done}
 use Rattle.body_format.proofs.Laws.Walks.{entries-walk}
 use Rattle.body_samples.specs.declared.Sample.{Sample}
 use Rattle.body_samples.specs.declared.Row.{Row}
-use Rattle.body_samples.specs.Filling.{sample_of, samples_known, samples_in, list_after}
+use Rattle.body_samples.specs.Filling.{sample_seen, sample_of, samples_known, samples_in, list_after}
 
 -- ---- rows
 
 abbrev pub no_row : ℕ → Row
 no_row p = record { sample = record { id = series_id 0; time = timestamp (pos 0); bits = 0 }; next = p }
-
--- what the list holds of an entry that was read
-abbrev pub sample_seen : EntryView → Sample
-sample_seen v = record { id = v.id; time = v.time; bits = v.bits }
 
 abbrev pub row_of : EntryAnswer → ℕ → Row
 row_of (Found v) p = record { sample = sample_seen v; next = v.next.0 }

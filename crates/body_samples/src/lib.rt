@@ -4,8 +4,8 @@
 
 ghost use Rattle.std.specs.Prelude.{◌≡◌, ◌≤◌, length};
 ghost use Rattle.body_format.specs.Reading.{check_fields};
-ghost use Rattle.body_samples.specs.Filling.{samples_in, fill_answer, fill_number, fill_value, list_after};
-ghost use Rattle.body_samples.specs.Rows.{no_row, sample_seen, row_at, fill_with};
+ghost use Rattle.body_samples.specs.Filling.{sample_seen, samples_in, fill_answer, fill_number, fill_value, list_after};
+ghost use Rattle.body_samples.specs.Rows.{no_row, row_at, fill_with};
 
 use body_format::EntryView;
 use body_reader::samples::check_samples;
